@@ -2,7 +2,8 @@
 ghost use Rattle.flow_floor.specs.Floors.{woken_of};
 ghost use Rattle.flow_runner.specs.Lines.{IsPassAt, line_room, pops_of, pushes_of};
 ghost use Rattle.flow_runner.specs.Serving.{names_of, KeepsPass, MayStandIn};
-ghost use Rattle.std.specs.Prelude.{◌≡◌, ◌<◌, ◌++◌, [], ◌∷◌, All};
+ghost use Rattle.flow_runner.specs.declared.readied.TheConstants.{PUSHED_AFTER};
+ghost use Rattle.std.specs.Prelude.{◌≡◌, ◌+◌, ◌<◌, ◌≤◌, ◌++◌, [], ◌∷◌, All};
 
 use crate::line::{Line, LinePass};
 use arrayvec::ArrayVec;
@@ -17,6 +18,7 @@ const PUSHED_AFTER: u32 = 20;
 /// The processes that a worker made ready and hasn't pushed yet, in order, and how many turns of the process that it holds it made since it pushed any.
 #[derive(Drop)]
 pub(crate) struct Unpushed {
+    /// Where there is no room for more, all are pushed.
     names: ArrayVec<u32, 32>,
     turns: u32,
 }
@@ -101,6 +103,7 @@ pub(crate) fn keep_woken<K: Component, R: Wait>(
     ensures pushed { pushes_of pass.new ++ names_of unpushed.new ≡ (pushes_of pass.old ++ names_of unpushed.old) ++ woken_of worker.now }
     ensures popped { pops_of pass.new ≡ pops_of pass.old }
     ensures below { MayStandIn line.now (names_of unpushed.new) }
+    ensures due { PUSHED_AFTER ≤ unpushed.old.turns + made → names_of unpushed.new ≡ [] }
 {
     unpushed.turns = unpushed.turns.saturating_add(made);
     if unpushed
