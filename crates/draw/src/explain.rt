@@ -1,9 +1,9 @@
 //! What the program says on the standard error where it prints no drawing: why, and what a person needs to find a fault.
 //! No contract speaks of it, and it never changes how the program ends.
-use flow_cli::Status;
 use flow_draw::{DrawStatus, command};
-use flow_explain::{put_all, put_refusal};
+use flow_explain::{put_all, put_refusal, put_too_large};
 use flow_limits::FILE_LIMIT;
+use flow_load::Status;
 use std::alloc::{AllocError, Global};
 use std::fs::{File, Files};
 use std::io;
@@ -62,6 +62,11 @@ fn page<R: Files<File = File> + Eprint + Drop>(
         Status::Refused => {
             if let Ok(Some(asked)) = command(alloc, words) {
                 put_refusal(alloc, rt, &mut page, asked.net, &[], &[])?;
+            }
+        }
+        Status::NoMemory => {
+            if let Ok(Some(asked)) = command(alloc, words) {
+                put_too_large(alloc, rt, &mut page, asked.net)?;
             }
         }
         Status::JournalRefused => page.push_str(OTHER_RUN)?,

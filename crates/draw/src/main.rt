@@ -6,10 +6,10 @@
 mod explain;
 
 use crate::explain::explain;
-use flow_cli::Status;
 use flow_draw::draw_top;
 use flow_explain::words_of;
 use flow_files::{FileShelf, StdSink};
+use flow_load::Status;
 use std::env;
 use std::process::ExitCode;
 

@@ -3,7 +3,7 @@
 use crate::own::{PARTS, own_kinds};
 use crate::words::{put_help, put_wrong};
 use flow_cli::Status;
-use flow_explain::put_refusal;
+use flow_explain::{put_refusal, put_too_large};
 use flow_limits::FILE_LIMIT;
 use flow_number::number_is_an_own_kind;
 use flow_tape::TAPE_FILE_LIMIT;
@@ -56,6 +56,11 @@ fn page<R: Files<File = File> + Eprint + Drop>(
         Status::Refused => {
             if let Some(name) = net_named(alloc, words) {
                 put_own_refusal(alloc, rt, &mut page, name)?;
+            }
+        }
+        Status::NoMemory => {
+            if let Some(name) = net_named(alloc, words) {
+                put_too_large(alloc, rt, &mut page, name)?;
             }
         }
         Status::JournalRefused => page.push_str(OTHER_RUN)?,

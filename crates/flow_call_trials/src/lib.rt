@@ -1,9 +1,10 @@
-//! Trials of the top calls of `flow` and of `draw` over files in memory: runs, checks, refusals, stops and drawings to
-//! their last byte. Nothing uses it: its tests show exact texts, and that calls succeed with ample memory. Each test is
-//! proved like any function: it is safe, and it ends.
+//! Trials of calls of `flow_cli` below its top calls: that a journal's file is judged by its header before the rest of it
+//! is read; and of the limits, which no contract can compare with what the documents tell. Nothing uses it: its tests
+//! show worked values, and that calls succeed with ample memory. Each test is proved like any function: it is safe, and
+//! it ends. What the top calls themselves do is told by rows (`flow_rows`).
 #![tactic(auto)]
 
 #[cfg(test)]
-mod calls;
+mod journal_files;
 #[cfg(test)]
-mod drawn;
+mod limits;

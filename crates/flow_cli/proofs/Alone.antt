@@ -9,7 +9,7 @@ use Rattle.flow_journal.specs.Replays.{schedule_of}
 use Rattle.flow_journal.specs.Runs.{IsRun}
 use Rattle.flow_played.specs.Others.{others}
 use Rattle.flow_cli.specs.Alone.{ComesToEndAsAlone}
-use Rattle.flow_cli.specs.Offers.{AnyKind, net_rules, specs_of}
+use Rattle.flow_load.specs.Offers.{AnyKind, net_rules, specs_of}
 use Rattle.flow_cli.specs.Top.{Call, ComesToEnd}
 use Rattle.flow_cli.proofs.Standards.{are-first-of, are-standard, determinate-standard, standard-ones, standard-well}
 use Rattle.flow_cli.proofs.TopLaws.{Laws}

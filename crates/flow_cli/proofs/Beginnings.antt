@@ -12,12 +12,12 @@ use Rattle.flow_machine.specs.Starts.{StartsNet}
 use Rattle.flow_machine.specs.Values.{NetValue}
 use Rattle.flow_offer.specs.Processes.{IsOfferedPlan}
 use Rattle.flow_cli.specs.Begins.{BeginsMake, IsUnderWay, IsUnderWayTo, IsRunUnderWay, IsMakeUnderWay, workers_to}
-use Rattle.flow_cli.specs.Reads.{Asks, AsksWorkers}
-use Rattle.flow_cli.specs.Components.{AreLive, HasComponents}
-use Rattle.flow_cli.specs.Offers.{AnyKind, AreOffered, Offer, counts_of, known, parts_of, specs_of}
-use Rattle.flow_cli.specs.Prepare.{AsksMake, AsksRun, IsReadyAgain}
-use Rattle.flow_cli.specs.declared.before.Again.{Again}
-use Rattle.flow_cli.specs.declared.before.Job.{Job}
+use Rattle.flow_load.specs.Reads.{Asks, AsksWorkers}
+use Rattle.flow_load.specs.Components.{AreLive, HasComponents}
+use Rattle.flow_load.specs.Offers.{AnyKind, AreOffered, Offer, counts_of, known, parts_of, specs_of}
+use Rattle.flow_load.specs.Prepare.{AsksMake, AsksRun, IsReadyAgain}
+use Rattle.flow_load.specs.declared.before.Again.{Again}
+use Rattle.flow_load.specs.declared.before.Job.{Job}
 use Rattle.flow_cli.specs.declared.begin.Goal.{Goal}
 use Rattle.flow_cli.specs.declared.begin.Goal.TheVariants as goals
 use Rattle.flow_cli.specs.declared.begin.Running.{Running}

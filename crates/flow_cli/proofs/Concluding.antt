@@ -5,19 +5,20 @@ use Rattle.std.specs.declared.alloc.Global.{Global}
 use Rattle.flow_text.specs.Edge.{Outside}
 use Rattle.flow_words.specs.Words.{run_of}
 use Rattle.flow_cli.specs.Live.{AnyNet}
-use Rattle.flow_cli.specs.Offers.{Offer, Recorded}
+use Rattle.flow_load.specs.Offers.{Offer, Recorded}
 use Rattle.flow_runner.specs.declared.worked.Crew.{Crew}
 use Rattle.flow_journal.specs.declared.merge.Journal.{Journal}
 use Rattle.flow_cli.specs.Meant.{LeavesMeaning}
-use Rattle.flow_cli.specs.Statuses.{IsFinished, IsOver}
-use Rattle.flow_cli.specs.Top.{call_of, recorded_in, recorded_of, Performs, Concludes, Says, IsReplay, IsCaused, IsManned, ComesToEnd, IsComplete}
+use Rattle.flow_load.specs.Statuses.{IsFinished, IsOver}
+use Rattle.flow_cli.specs.Top.{call_of, recorded_in, recorded_of, Performs, Concludes, Says, IsCaused, IsManned, ComesToEnd, IsComplete}
+use Rattle.flow_load.specs.Valid.{IsReplay}
 use Rattle.flow_cli.specs.Workers.{IsMadeAsAsked}
 use Rattle.flow_cli.specs.declared.run.Said.{Said}
 use Rattle.flow_cli.specs.declared.run.Done.{Done}
 use Rattle.flow_cli.specs.declared.run.Done.TheVariants.{Ran as HasRan, Said as HasSaid}
-use Rattle.flow_cli.specs.declared.status.Status.TheVariants.{Running}
+use Rattle.flow_load.specs.declared.status.Status.TheVariants.{Running}
 use Rattle.flow_cli.specs.declared.top.Outcome.{Outcome}
-use Rattle.flow_cli.specs.Prepare.{so_far}
+use Rattle.flow_load.specs.Prepare.{so_far}
 use Rattle.flow_cli.proofs.TopLaws.{Laws}
 use Rattle.flow_cli.proofs.Ends.{ran-caused, ran-well, ran-status, ran-complete, said-caused, said-well, said-status, said-complete, said-meaning}
 use Rattle.flow_cli.proofs.Manned.{as-asked}

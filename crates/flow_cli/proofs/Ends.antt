@@ -4,7 +4,7 @@ use Rattle.std.specs.Prelude.{◌≢◌, String}
 use Rattle.std.specs.declared.alloc.Global.{Global}
 use Rattle.flow_text.specs.Edge.{Outside, Rose}
 use Rattle.flow_cli.specs.Live.{AnyNet}
-use Rattle.flow_cli.specs.Offers.{AnyKind, Offer, specs_of}
+use Rattle.flow_load.specs.Offers.{AnyKind, Offer, specs_of}
 use Rattle.flow_model.specs.States.{State}
 use Rattle.flow_model.specs.Verdicts.{Quiet}
 use Rattle.flow_report.specs.Text.{report_text}
@@ -12,15 +12,16 @@ use Rattle.flow_report.specs.declared.report.Verdict.{Verdict}
 use Rattle.flow_report.specs.declared.report.Verdict.TheVariants as verdicts
 use Rattle.flow_report.specs.States.{IsVerdict}
 use Rattle.flow_cli.specs.After.{Prints, verdict_status}
-use Rattle.flow_cli.specs.Many.{WritesAll}
+use Rattle.flow_load.specs.Many.{WritesAll}
 use Rattle.flow_cli.specs.Meant.{LeavesMeaning, ChangesNoName}
-use Rattle.flow_cli.specs.Statuses.{IsOver}
-use Rattle.flow_cli.specs.Top.{call_of, outputs_of_run, recorded_by, recorded_in, HasRun, Says, Finishes, IsReplay, IsCaused, ComesToEnd, IsComplete}
+use Rattle.flow_load.specs.Statuses.{IsOver}
+use Rattle.flow_cli.specs.Top.{call_of, outputs_of_run, recorded_by, recorded_in, HasRun, Says, Finishes, IsCaused, ComesToEnd, IsComplete}
+use Rattle.flow_load.specs.Valid.{IsReplay}
 use Rattle.flow_cli.specs.declared.run.Said.{Said}
 use Rattle.flow_cli.specs.declared.run.Unwritten.{Unwritten}
-use Rattle.flow_cli.specs.declared.status.Status.{Status}
-use Rattle.flow_cli.specs.declared.status.Status.TheVariants as statuses
-use Rattle.flow_cli.specs.Prepare.{so_far}
+use Rattle.flow_load.specs.declared.status.Status.{Status}
+use Rattle.flow_load.specs.declared.status.Status.TheVariants as statuses
+use Rattle.flow_load.specs.Prepare.{so_far}
 use Rattle.flow_cli.proofs.TopLaws.{Laws}
 use Rattle.flow_cli.proofs.Runs.{stops-writing, whole-run, printed-report}
 use Rattle.flow_cli.proofs.Tops.{by-status, stopped, stop-not-over, stop-not-running, stop-complete}

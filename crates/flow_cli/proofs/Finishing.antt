@@ -4,13 +4,13 @@ use Rattle.std.specs.declared.result.Result.{Result}
 use Rattle.flow_text.specs.Edge.{Outside}
 use Rattle.flow_cli.specs.Live.{AnyNet}
 use Rattle.flow_cli.specs.After.{Prints, verdict_status}
-use Rattle.flow_cli.specs.Many.{WritesFiles}
+use Rattle.flow_load.specs.Many.{WritesFiles}
 use Rattle.flow_cli.specs.Top.{Finishes, PrintsWritten, outputs_of_run}
 use Rattle.flow_cli.specs.declared.ran.Account.{Account}
 use Rattle.flow_cli.specs.declared.ran.PrintedReport.{PrintedReport}
 use Rattle.flow_cli.specs.declared.run.Unwritten.{Unwritten}
-use Rattle.flow_cli.specs.declared.status.Status.{Status}
-use Rattle.flow_cli.specs.declared.stop.Stop.{Stop}
+use Rattle.flow_load.specs.declared.status.Status.{Status}
+use Rattle.flow_load.specs.declared.stop.Stop.{Stop}
 
 -- The account of a run that is over is printed.
 pub finished-as-printed : (a n po pn : Outside) (run : Unwritten AnyNet) (written : Result (Unit {0}) Stop) (account : Account) (status : Status)

@@ -4,14 +4,14 @@ use Rattle.std.specs.Prelude.{String}
 use Rattle.std.specs.declared.alloc.Global.{Global}
 use Rattle.flow_text.specs.Edge.{Outside}
 use Rattle.flow_cli.specs.Live.{AnyNet}
-use Rattle.flow_cli.specs.Causes.{HasCause}
-use Rattle.flow_cli.specs.Offers.{Offer, Recorded}
-use Rattle.flow_cli.specs.Prepare.{so_far}
+use Rattle.flow_load.specs.Causes.{HasCause}
+use Rattle.flow_load.specs.Offers.{Offer, Recorded}
+use Rattle.flow_load.specs.Prepare.{so_far}
 use Rattle.flow_cli.specs.Promises.{KeepsPromises}
 use Rattle.flow_cli.specs.Top.{Concludes, Performs, PrintsStop, call_of, recorded_of}
 use Rattle.flow_cli.specs.declared.run.Done.{Done}
-use Rattle.flow_cli.specs.declared.status.Status.{Status}
-use Rattle.flow_cli.specs.declared.stop.Stop.{Stop}
+use Rattle.flow_load.specs.declared.status.Status.{Status}
+use Rattle.flow_load.specs.declared.stop.Stop.{Stop}
 use Rattle.flow_cli.specs.declared.top.Outcome.{Outcome}
 use Rattle.flow_cli.proofs.Alone.{alone}
 use Rattle.flow_cli.proofs.Concluding.{done-over, done-meaning, done-cause, done-status, done-complete}

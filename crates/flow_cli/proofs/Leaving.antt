@@ -23,12 +23,13 @@ use Rattle.flow_journal.specs.declared.merge.Journal.{Journal}
 use Rattle.flow_journal.specs.Runs.{IsScheduled, RoundsAreRuns, ReachesAreRuns, ComesOfRun, SeesNoMoreThanTurns}
 use Rattle.flow_report.specs.Of.{told_of}
 use Rattle.flow_report.specs.States.{ReportsTell}
-use Rattle.flow_cli.specs.Step.{Filled}
-use Rattle.flow_cli.specs.Components.{written_by}
+use Rattle.flow_load.specs.Step.{Filled}
+use Rattle.flow_load.specs.Components.{written_by}
 use Rattle.flow_cli.specs.Makes.{output_lines_at, output_lines_from}
 use Rattle.flow_cli.specs.Engines.{RanBy}
-use Rattle.flow_cli.specs.Offers.{AnyKind, live_rules}
-use Rattle.flow_cli.specs.Runs.{IsToldOf, IsToldOfNet, IsJournalOfNet, written_in, outputs_at, outputs_from}
+use Rattle.flow_load.specs.Offers.{AnyKind, live_rules}
+use Rattle.flow_cli.specs.Leaves.{IsToldOf, IsToldOfNet, IsJournalOfNet}
+use Rattle.flow_load.specs.Runs.{written_in, outputs_at, outputs_from}
 use Rattle.flow_cli.specs.declared.ran.PrintedReport.{PrintedReport}
 
 -- the bytes that each process wrote are those of its body

@@ -9,9 +9,9 @@ use Rattle.std.specs.List.{flat_map}
 use Rattle.std.specs.declared.option.Option.{Option}
 use Rattle.flow_plan.specs.declared.plan.Process.{Process}
 use Rattle.flow_text.specs.Edge.{Name}
-use Rattle.flow_cli.specs.Components.{written_by}
+use Rattle.flow_load.specs.Components.{written_by}
 use Rattle.flow_cli.specs.Makes.{output_lines_at, output_lines_from}
-use Rattle.flow_cli.proofs.Written.{there_at}
+use Rattle.flow_load.proofs.Readings.{there_at}
 use Rattle.flow_machine.proofs.Lists.{read-there}
 
 step : (wrote : ℕ → List ℕ) (p k : ℕ) (ps : List Process) (process : Process) → slice_get ps k ≡ Some process

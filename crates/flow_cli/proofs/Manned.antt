@@ -5,7 +5,7 @@ use Rattle.std.specs.declared.alloc.Global.{Global}
 use Rattle.flow_words.specs.Words.{Asked, workers_asked}
 use Rattle.flow_plan.specs.Network.{Network}
 use Rattle.flow_model.specs.Plans.{start_of}
-use Rattle.flow_cli.specs.Offers.{AnyKind, live_rules}
+use Rattle.flow_load.specs.Offers.{AnyKind, live_rules}
 use Rattle.flow_machine.specs.Logs.{Logged, IsLogOf, turns_made}
 use Rattle.flow_machine.specs.Starts.{StartsNet}
 use Rattle.flow_machine.specs.Values.{NetValue}
@@ -18,8 +18,8 @@ use Rattle.flow_journal.specs.Runs.{ComesOfRun}
 use Rattle.flow_journal.specs.declared.merge.Journal.{Journal}
 use Rattle.flow_journal.proofs.Rounds.{all-logged, schedule-count}
 use Rattle.flow_cli.specs.Engines.{RanBy}
-use Rattle.flow_cli.specs.Reads.{Asks}
-use Rattle.flow_cli.specs.Runs.{IsJournalOfNet}
+use Rattle.flow_load.specs.Reads.{Asks}
+use Rattle.flow_cli.specs.Leaves.{IsJournalOfNet}
 use Rattle.flow_cli.specs.Workers.{IsMadeBy, IsMadeAsAsked}
 
 -- turns by their stamps are their processes by their stamps

@@ -23,17 +23,17 @@ use Rattle.flow_offer.specs.Processes.{own_processes}
 use Rattle.flow_played.specs.Others.{others, as_mixed}
 use Rattle.flow_cli.specs.Live.{AnyNet}
 use Rattle.flow_cli.specs.After.{Prints, verdict_status}
-use Rattle.flow_cli.specs.Many.{WritesAll}
+use Rattle.flow_load.specs.Many.{WritesAll}
 use Rattle.flow_cli.specs.Meant.{LeavesMeaning}
-use Rattle.flow_cli.specs.Offers.{AnyKind, Offer, net_rules, specs_of}
-use Rattle.flow_cli.specs.Prepare.{so_far}
-use Rattle.flow_cli.specs.Runs.{bytes_in, written_in}
-use Rattle.flow_cli.specs.Statuses.{IsFinished as IsFinishedStatus, IsOver}
+use Rattle.flow_load.specs.Offers.{AnyKind, Offer, net_rules, specs_of}
+use Rattle.flow_load.specs.Prepare.{so_far}
+use Rattle.flow_load.specs.Runs.{bytes_in, written_in}
+use Rattle.flow_load.specs.Statuses.{IsFinished as IsFinishedStatus, IsOver}
 use Rattle.flow_cli.specs.Top.{HasRun, Finishes, outputs_of_run, recorded_by}
 use Rattle.flow_cli.specs.declared.run.Unwritten.{Unwritten}
-use Rattle.flow_cli.specs.declared.status.Status.{Status}
-use Rattle.flow_cli.specs.declared.status.Status.TheVariants as statuses
-use Rattle.flow_cli.proofs.Fitting.{components-fit}
+use Rattle.flow_load.specs.declared.status.Status.{Status}
+use Rattle.flow_load.specs.declared.status.Status.TheVariants as statuses
+use Rattle.flow_load.proofs.Fitting.{components-fit}
 use Rattle.flow_cli.proofs.Runs.{run-of, whole-run}
 use Rattle.flow_cli.proofs.Standards.{are-first, are-standard, standard-ones, standard-well}
 use Rattle.flow_cli.proofs.TopLaws.{Laws}

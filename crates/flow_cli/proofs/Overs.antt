@@ -1,12 +1,10 @@
 -- What a call comes to once the turns of its network are over.
-use Rattle.std.proofs.Common.{◌≡◌, ℕ, List, [], ◌++◌, Option, Some, None, Ok, Err, false, is_some, length, map, inl, inr, refl, sym, ap, ◌∙◌, subst}
-use Rattle.std.specs.Prelude.{String, Vec, slice_get}
-use Rattle.std.specs.Option.{option_and_then}
+use Rattle.std.proofs.Common.{◌≡◌, ℕ, List, [], ◌++◌, Ok, Err, length, map, inl, inr, sym, ap, ◌∙◌, subst}
+use Rattle.std.specs.Prelude.{String, Vec}
 use Rattle.std.specs.declared.alloc.Global.{Global}
 use Rattle.std.specs.declared.result.Result.{Result}
 use Rattle.flow_text.specs.Edge.{Outside}
 use Rattle.flow_plan.specs.declared.kind.KindSpec.{KindSpec}
-use Rattle.flow_plan.specs.declared.plan.Process.{Process}
 use Rattle.flow_plan.specs.Network.{Network}
 use Rattle.flow_machine.specs.Values.{NetValue}
 use Rattle.flow_runner.specs.declared.worked.Crew.{Crew}
@@ -19,18 +17,20 @@ use Rattle.std.specs.Prelude.{IfOk}
 use Rattle.std.specs.declared.alloc.AllocError.{AllocError}
 use Rattle.flow_journal.specs.Files.{IsWritable}
 use Rattle.flow_tape.specs.Files.{IsWritable as IsTapesWritable}
-use Rattle.flow_offer.specs.Processes.{IsOfferedPlan, own_place, own_processes, place_of}
+use Rattle.flow_offer.specs.Processes.{IsOfferedPlan}
 use Rattle.flow_cli.specs.Live.{AnyNet}
 use Rattle.flow_cli.specs.After.{verdict_status}
 use Rattle.flow_cli.specs.Begins.{EndsAsRan, IsRunUnderWay, IsMakeUnderWay, IsUnderWayTo, LeavesAsRan, MakeEnds, RunEnds, WasRunUnderWay, WasUnderWay, workers_to}
-use Rattle.flow_cli.specs.Components.{AreComponents}
+use Rattle.flow_load.specs.Components.{AreComponents}
 use Rattle.flow_cli.specs.Engines.{RanBy}
-use Rattle.flow_cli.specs.Makes.{SaysOfMake, make_text, made_input}
-use Rattle.flow_cli.specs.Offers.{AnyKind, Offer, Taped, specs_of}
-use Rattle.flow_cli.specs.Prepare.{so_far}
-use Rattle.flow_cli.specs.Reads.{IsReady}
-use Rattle.flow_cli.specs.Runs.{Leaves, RunsTo, journal_file, tapes_file}
-use Rattle.flow_cli.specs.Step.{Filled}
+use Rattle.flow_cli.specs.Makes.{SaysOfMake, make_text}
+use Rattle.flow_load.specs.MadeJobs.{made_input}
+use Rattle.flow_load.specs.Offers.{AnyKind, Offer, Taped, specs_of}
+use Rattle.flow_load.specs.Prepare.{so_far}
+use Rattle.flow_load.specs.Reads.{IsReady}
+use Rattle.flow_cli.specs.Leaves.{Leaves}
+use Rattle.flow_load.specs.Runs.{RunsTo, journal_file, tapes_file}
+use Rattle.flow_load.specs.Step.{Filled}
 use Rattle.flow_cli.specs.Top.{HasRun, Performs, Says, kept_file, recorded_by, recorded_in}
 use Rattle.flow_cli.specs.Workers.{IsMadeAsAsked, IsMadeBy}
 use Rattle.flow_cli.specs.declared.begin.Goal.{Goal}
@@ -40,11 +40,11 @@ use Rattle.flow_cli.specs.declared.ran.Ran.{Ran}
 use Rattle.flow_cli.specs.declared.run.Done.TheVariants as dones
 use Rattle.flow_cli.specs.declared.run.Said.{Said}
 use Rattle.flow_cli.specs.declared.run.Unwritten.{Unwritten}
-use Rattle.flow_cli.specs.declared.stop.Stop.TheVariants.{NoMemory}
+use Rattle.flow_load.specs.declared.stop.Stop.TheVariants.{NoMemory}
 use Rattle.flow_cli.proofs.Manned.{as-asked}
 use Rattle.flow_cli.proofs.Performing.{wants-memory}
-use Rattle.flow_cli.proofs.Steps.{may-read}
-use Rattle.flow_cli.proofs.Standards.{all-fail}
+use Rattle.flow_load.proofs.Steps.{may-read}
+use Rattle.flow_load.proofs.NoKinds.{none-own}
 
 -- A run that was under way has been made.
 pub run-over : (own : List KindSpec) (old new : Outside) (words : List (String Global)) (plan : Network) (asked : AskedRun) (start : NetValue AnyKind) (worked : Worked AnyKind) (run : Unwritten AnyNet)
@@ -61,14 +61,6 @@ run-over own old new words plan asked start worked run way by plan_is leaves jou
       made = left.1;
       kept = ap (λ (l : List Filled). l ++ kept_file run.tapes) journal ∙ ap (λ (l : List Filled). journal_file asked.journal run.ran.journal ++ l) tapes;
     }
-
--- Without kinds of the caller's own no process is of one.
-no-place : (found : Option Process) → is_some (option_and_then (λ (process : Process). place_of [] process.kind) found) ≡ false
-no-place None = refl
-no-place (Some process) = refl
-
-pub none-own : (plan : Network) → own_processes [] plan ≡ []
-none-own plan = all-fail (λ p. is_some (own_place [] plan p)) 0 (length plan.processes) (λ p least most. no-place (slice_get plan.processes p))
 
 no-tapes : (plan : Network) (given : List (List ℕ)) (tapes : List Taped) (components : List AnyKind) → AreComponents [] plan given tapes components → tapes ≡ []
 no-tapes plan given tapes components are = are.tapes_are ∙ ap (map are.by) (none-own plan)

@@ -12,23 +12,23 @@ use Rattle.flow_determinate.specs.Standard.{IsDeterminate}
 use Rattle.flow_kinds.specs.Page.{kinds_page}
 use Rattle.flow_journal.specs.Replays.{schedule_of}
 use Rattle.flow_journal.specs.Runs.{IsScheduled}
-use Rattle.flow_cli.specs.Step.{OnlyReads, MayRead, whole}
+use Rattle.flow_load.specs.Step.{OnlyReads, MayRead, whole}
 use Rattle.flow_cli.specs.After.{verdict_status}
-use Rattle.flow_cli.specs.Components.{AreComponents}
-use Rattle.flow_cli.specs.Offers.{Offer, Recorded, IsNothing, net_rules, specs_of}
-use Rattle.flow_cli.specs.Reads.{Asks, AreTapes, IsFile, IsJournalFile}
-use Rattle.flow_cli.specs.Causes.{HasCause}
-use Rattle.flow_cli.specs.Prepare.{IsReadyAgain, so_far}
-use Rattle.flow_cli.specs.Runs.{MakesAgain}
+use Rattle.flow_load.specs.Components.{AreComponents}
+use Rattle.flow_load.specs.Offers.{Offer, Recorded, IsNothing, net_rules, specs_of}
+use Rattle.flow_load.specs.Reads.{Asks, AreTapes, IsFile, IsJournalFile}
+use Rattle.flow_load.specs.Causes.{HasCause}
+use Rattle.flow_load.specs.Prepare.{IsReadyAgain, so_far}
+use Rattle.flow_cli.specs.Leaves.{MakesAgain}
 use Rattle.flow_cli.specs.Top.{Says, SaysTurnsAgain, TellsWhether, answer, recorded_in}
-use Rattle.flow_cli.specs.declared.before.Again.{Again}
+use Rattle.flow_load.specs.declared.before.Again.{Again}
 use Rattle.flow_cli.specs.declared.run.Said.{Said}
-use Rattle.flow_cli.specs.declared.status.Status.TheVariants.{Finished}
-use Rattle.flow_cli.specs.declared.stop.JournalRefusal.TheVariants.{Byte, Turn}
-use Rattle.flow_cli.specs.declared.stop.Stop.{Stop}
-use Rattle.flow_cli.specs.declared.stop.Stop.TheVariants.{Words, Refused, NoPart, JournalRefused, TapesRefused, ReadFault, WriteFault, TooLong, NoMemory}
-use Rattle.flow_cli.proofs.Steps.{may-read}
-use Rattle.flow_cli.proofs.Befores.{untouched}
+use Rattle.flow_load.specs.declared.status.Status.TheVariants.{Finished}
+use Rattle.flow_load.specs.declared.stop.JournalRefusal.TheVariants.{Byte, Turn}
+use Rattle.flow_load.specs.declared.stop.Stop.{Stop}
+use Rattle.flow_load.specs.declared.stop.Stop.TheVariants.{Words, Refused, NoPart, JournalRefused, TapesRefused, ReadFault, WriteFault, TooLong, NoMemory}
+use Rattle.flow_load.proofs.Steps.{may-read}
+use Rattle.flow_load.proofs.Befores.{untouched}
 
 -- Want of memory behind reading.
 pub wants-memory : (o a : Outside) (words : List (String Global)) (own : List Offer) (recorded : Recorded) → MayRead o a → IsNothing recorded → HasCause (so_far words own o a recorded) NoMemory

@@ -35,15 +35,16 @@ use Rattle.flow_played.specs.Played.{HasTape, TapesOf, played, played_by}
 use Rattle.flow_played.specs.Runs.{IsFresh, player_for, each_replaced, players, PlaysWholeRuns}
 use Rattle.flow_played.specs.Telling.{PlayersStandInPlace, PlayersAreToldOf}
 use Rattle.flow_cli.specs.Live.{AnyNet}
-use Rattle.flow_cli.specs.Components.{AreComponents, AreLive, IsLiveComponent, IsPlayedComponent}
-use Rattle.flow_cli.specs.Offers.{AnyKind, Taped, Recorded, known, live_rules}
-use Rattle.flow_cli.specs.Runs.{AreTapesOfNet, IsJournalOfNet, IsRecordedAt, IsToldOf, IsToldOfNet, Leaves, bytes_in, tape_by, written_in}
+use Rattle.flow_load.specs.Components.{AreComponents, AreLive, IsLiveComponent, IsPlayedComponent}
+use Rattle.flow_load.specs.Offers.{AnyKind, Taped, Recorded, known, live_rules}
+use Rattle.flow_cli.specs.Leaves.{AreTapesOfNet, IsJournalOfNet, IsRecordedAt, IsToldOf, IsToldOfNet, Leaves, tape_by}
+use Rattle.flow_load.specs.Runs.{bytes_in, written_in}
 use Rattle.flow_cli.specs.Top.{recorded_by}
 use Rattle.flow_cli.specs.declared.ran.PrintedReport.{PrintedReport}
 use Rattle.flow_cli.specs.declared.ran.Ran.{Ran}
 use Rattle.flow_cli.specs.Begins.{LeavesAsRan}
 use Rattle.flow_cli.specs.Workers.{IsMadeBy}
-use Rattle.flow_cli.proofs.Fitting.{known-at, live-fit}
+use Rattle.flow_load.proofs.Fitting.{known-at, live-fit}
 use Rattle.flow_cli.proofs.Manned.{made-by}
 use Rattle.flow_cli.proofs.Leaving.{bytes-same, comes-of-run, has-file, told-of}
 

@@ -3,21 +3,22 @@ use Rattle.std.proofs.Common.{◌≡◌, ◌∙◌, inl, inr, ℕ, List, ◌++�
 use Rattle.std.specs.Prelude.{String, string_bytes}
 use Rattle.std.specs.declared.alloc.Global.{Global}
 use Rattle.flow_cli.specs.Live.{AnyNet}
-use Rattle.flow_cli.specs.Offers.{Offer, specs_of}
+use Rattle.flow_load.specs.Offers.{Offer, specs_of}
 use Rattle.flow_text.specs.Edge.{Outside, Name}
 use Rattle.flow_report.specs.Text.{report_text}
-use Rattle.flow_cli.specs.Step.{Filled}
-use Rattle.flow_cli.specs.Many.{WritesFiles, WritesAll, EndsAt, FailsAt}
+use Rattle.flow_load.specs.Step.{Filled}
+use Rattle.flow_load.specs.Many.{WritesFiles, WritesAll, EndsAt, FailsAt}
 use Rattle.flow_cli.specs.After.{Prints, verdict_status}
-use Rattle.flow_cli.specs.Causes.{IsRunOf, IsWriteFault, HasCause}
+use Rattle.flow_load.specs.Causes.{IsRunOf, IsWriteFault, HasCause}
 use Rattle.flow_cli.specs.Top.{IsWhole, HasRun, kept_file, outputs_of_run, recorded_by}
 use Rattle.flow_cli.specs.declared.run.Unwritten.{Unwritten}
-use Rattle.flow_cli.specs.Runs.{bytes_at, bytes_in, files_of_run, outputs_of}
+use Rattle.flow_cli.specs.Leaves.{bytes_at}
+use Rattle.flow_load.specs.Runs.{bytes_in, files_of_run, outputs_of}
 use Rattle.flow_cli.proofs.Leaving.{outputs-same}
-use Rattle.flow_cli.specs.declared.status.Status.{Status}
-use Rattle.flow_cli.specs.declared.stop.Stop.{Stop}
-use Rattle.flow_cli.specs.declared.stop.Stop.TheVariants.{Words, Refused, NoPart, JournalRefused, TapesRefused, ReadFault, WriteFault, TooLong, NoMemory}
-use Rattle.flow_cli.specs.Prepare.{so_far}
+use Rattle.flow_load.specs.declared.status.Status.{Status}
+use Rattle.flow_load.specs.declared.stop.Stop.{Stop}
+use Rattle.flow_load.specs.declared.stop.Stop.TheVariants.{Words, Refused, NoPart, JournalRefused, TapesRefused, ReadFault, WriteFault, TooLong, NoMemory}
+use Rattle.flow_load.specs.Prepare.{so_far}
 
 module _ (o a n : Outside) (words : List (String Global)) (own : List Offer) (run : Unwritten AnyNet) (has : HasRun (specs_of own) o a words run) where
   unfoldable pub run-of : IsRunOf (so_far words own o n (recorded_by run.ran)) has.asked run.ran.plan has.leaves.last a

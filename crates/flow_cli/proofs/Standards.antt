@@ -25,9 +25,10 @@ use Rattle.flow_meanings.proofs.Every.{made-first}
 use Rattle.flow_offer.specs.Processes.{IsOwnAt, IsOfferedPlan, IsStandardOrOwn, own_place, own_processes}
 use Rattle.flow_offer.specs.Laws.{EachIsStandardOrOwn}
 use Rattle.flow_played.specs.Others.{IsOther, others}
-use Rattle.flow_cli.specs.Offers.{AnyKind, Taped}
-use Rattle.flow_cli.specs.Components.{IsComponent, IsPlayedComponent, AreComponents}
+use Rattle.flow_load.specs.Offers.{AnyKind, Taped}
+use Rattle.flow_load.specs.Components.{IsComponent, IsPlayedComponent, AreComponents}
 use Rattle.flow_cli.proofs.TopLaws.{Laws}
+use Rattle.flow_load.proofs.NoKinds.{all-fail}
 
 -- The components are standard ones, each of its process in its first state, on what that was given.
 pub record AreStandard (plan : Network) (given : List (List ℕ)) (standard : List Std) : Type 0 where
@@ -106,14 +107,6 @@ are-first plan given standard are p component at = let is = are.each p component
 
 pub are-first-of : (plan : Network) (given : List (List ℕ)) (standard : List Std) → AreStandard plan given standard → AreFirstOf plan standard
 are-first-of plan given standard are p component at = let is = are.each p component at in record { process = is.2.process; there = is.2.there; file = is.0; made = is.2.made }
-
--- A list that a test passes nowhere is left empty.
-pub all-fail : (test : ℕ → Bool) (from count : ℕ) → ((p : ℕ) → from ≤ p → p < from + count → test p ≡ false) → filter test (range_with_len from count) ≡ []
-all-fail test from zero fails = refl
-all-fail test from (suc count) fails =
-    let first = fails from (omega arith) (omega arith) in
-    let rest = all-fail test (from + 1) count (λ p least most. fails p (omega (arith, least)) (omega (arith, most))) in
-    ap (λ (b : Bool). cond b (from ∷ filter test (range_with_len (from + 1) count)) (filter test (range_with_len (from + 1) count))) first ∙ rest
 
 any-at : {A : Type 0} (test : A → Bool) (xs : List A) (i : ℕ) (x : A) → slice_get xs i ≡ Some x → test x ≡ true → list_any test xs ≡ true
 any-at test [] i x there is = absurd cc

@@ -1,39 +1,23 @@
 -- The tapes of a net, process by process.
-use Rattle.std.proofs.Common.{◌≡◌, ◌≢◌, ◌⊎◌, inl, inr, ℕ, ◌+◌, ◌<◌, Bool, true, false, cond, List, [], ◌∷◌, ◌++◌, map, map-id, is_some, refl, sym, ◌∙◌, ap, subst, arith}
+use Rattle.std.proofs.Common.{◌≡◌, ◌≢◌, ◌⊎◌, inl, inr, ℕ, ◌+◌, ◌<◌, Bool, true, false, cond, List, [], ◌∷◌, ◌++◌, map, is_some, refl, sym, ◌∙◌, ap, subst, arith}
 use mathlib.Core.List.{append-nil}
 use Rattle.std.proofs.lemmas.List.{map-append}
-use Rattle.std.proofs.lemmas.List.Elements.{filter-append}
-use Rattle.std.proofs.lemmas.List.FromFn.{map-range_with_len_more}
-use Rattle.std.specs.List.{filter, range_with_len}
 use Rattle.flow_machine.specs.Values.{BodyValue}
 use Rattle.flow_model.proofs.Lists.{same_or_not}
 use Rattle.flow_plan.specs.declared.kind.KindSpec.{KindSpec}
 use Rattle.flow_plan.specs.Network.{Network}
 use Rattle.flow_offer.specs.Processes.{own_place}
-use Rattle.flow_cli.specs.Offers.{AnyKind, Taped}
-use Rattle.flow_cli.specs.Runs.{tape_by, IsRecordedAt}
+use Rattle.flow_load.specs.Offers.{AnyKind, Taped}
+use Rattle.flow_cli.specs.Leaves.{tape_by, IsRecordedAt}
+use Rattle.flow_load.proofs.Counting.{own_below, own-more}
 
--- The processes below k that are of a kind of the caller's own.
-abbrev pub own_below : List KindSpec → Network → ℕ → List ℕ
-own_below own plan k = filter (λ p. is_some (own_place own plan p)) (range_with_len 0 k)
-
--- The tapes of those, each with a file or a player's.
+-- The tapes of the processes below k that are of a kind of the caller's own, each with a file or a player's.
 pub record TapedBelow (own : List KindSpec) (plan : Network) (bodies : List (BodyValue AnyKind)) (k : ℕ) (tapes : List Taped) : Type 0 where
   pub tapes_are : tapes ≡ map (tape_by bodies) (own_below own plan k)
   pub recorded : (p : ℕ) → p < k → is_some (own_place own plan p) ≡ true → IsRecordedAt bodies p
 
 pub none-below : (own : List KindSpec) (plan : Network) (bodies : List (BodyValue AnyKind)) → TapedBelow own plan bodies 0 []
 none-below own plan bodies = record { tapes_are = refl; recorded = λ p less. absurd (omega (arith, less)) }
-
-one-range : (k : ℕ) → range_with_len 0 (k + 1) ≡ range_with_len 0 k ++ k ∷ []
-one-range k = sym (same 0 (k + 1)) ∙ map-range_with_len_more (λ n. n) 0 k k (omega arith) ∙ ap (λ (l : List ℕ). l ++ k ∷ []) (same 0 k)
-  where
-    same : (from count : ℕ) → map (λ (n : ℕ). n) (range_with_len from count) ≡ range_with_len from count
-    same from count = map-id (range_with_len from count)
-
--- One process more.
-pub own-more : (own : List KindSpec) (plan : Network) (k : ℕ) → own_below own plan (k + 1) ≡ own_below own plan k ++ cond (is_some (own_place own plan k)) (k ∷ []) []
-own-more own plan k = ap (filter (λ p. is_some (own_place own plan p))) (one-range k) ∙ filter-append (λ p. is_some (own_place own plan p)) (range_with_len 0 k) (k ∷ [])
 
 below-or-here : (p k : ℕ) → p < k + 1 → (p < k) ⊎ (p ≡ k)
 below-or-here p k less = by (same_or_not p k)

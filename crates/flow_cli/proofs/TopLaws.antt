@@ -16,7 +16,7 @@ use Rattle.flow_tape.specs.Faults.{HasTapesOrFault, HasOneList}
 use Rattle.flow_offer.specs.Fits.{FitsPlayed}
 use Rattle.flow_offer.specs.Laws.{EachIsStandardOrOwn}
 use Rattle.flow_played.specs.Plain.{AllRunAsTheyAre, AreOthers, StandsInPlace, TellsAsItIs}
-use Rattle.flow_cli.specs.Offers.{AnyKind, net_rules}
+use Rattle.flow_load.specs.Offers.{AnyKind, net_rules}
 
 pub record Laws : Type 0 where
   pub each : EachIsStandardOrOwn

@@ -3,22 +3,22 @@ use Rattle.std.proofs.Common.{◌≡◌, ℕ, List, inl, inr, ◌∙◌, ap, sub
 use Rattle.std.specs.Prelude.{◌≢◌, String, string_bytes}
 use Rattle.std.specs.declared.alloc.Global.{Global}
 use Rattle.flow_text.specs.Edge.{Outside, Rose}
-use Rattle.flow_cli.specs.Offers.{Offer, Recorded}
+use Rattle.flow_load.specs.Offers.{Offer, Recorded}
 use Rattle.flow_cli.specs.After.{Prints}
-use Rattle.flow_cli.specs.Statuses.{IsOver}
-use Rattle.flow_cli.specs.Stops.{status_of, text_of}
-use Rattle.flow_cli.specs.Causes.{Work, HasCause}
+use Rattle.flow_load.specs.Statuses.{IsOver}
+use Rattle.flow_load.specs.Stops.{status_of, text_of}
+use Rattle.flow_load.specs.Causes.{Work, HasCause}
 use Rattle.flow_cli.specs.Top.{call_of, PrintsStop, TellsStop, IsCaused, IsComplete}
-use Rattle.flow_cli.specs.declared.status.Status.{Status}
-use Rattle.flow_cli.specs.declared.status.Status.TheVariants as statuses
-use Rattle.flow_cli.specs.declared.stop.JournalRefusal.TheVariants.{Byte, Turn}
-use Rattle.flow_cli.specs.declared.stop.TapesRefusal.TheVariants as tapes_refusals
-use Rattle.flow_cli.specs.declared.stop.Stop.{Stop}
-use Rattle.flow_cli.specs.declared.stop.Stop.TheVariants.{Words, Refused, NoPart, JournalRefused, TapesRefused, ReadFault, WriteFault, TooLong, NoMemory}
-use Rattle.flow_cli.proofs.Steps.{may-read, may-fail-to-read}
-use Rattle.flow_cli.specs.Prepare.{so_far}
+use Rattle.flow_load.specs.declared.status.Status.{Status}
+use Rattle.flow_load.specs.declared.status.Status.TheVariants as statuses
+use Rattle.flow_load.specs.declared.stop.JournalRefusal.TheVariants.{Byte, Turn}
+use Rattle.flow_load.specs.declared.stop.TapesRefusal.TheVariants as tapes_refusals
+use Rattle.flow_load.specs.declared.stop.Stop.{Stop}
+use Rattle.flow_load.specs.declared.stop.Stop.TheVariants.{Words, Refused, NoPart, JournalRefused, TapesRefused, ReadFault, WriteFault, TooLong, NoMemory}
+use Rattle.flow_load.proofs.Steps.{may-read, may-fail-to-read}
+use Rattle.flow_load.specs.Prepare.{so_far}
 use Rattle.flow_cli.proofs.TopLaws.{Laws}
-use Rattle.flow_cli.proofs.Befores.{untouched}
+use Rattle.flow_load.proofs.Befores.{untouched}
 use Rattle.flow_cli.proofs.Valid.{valid-at}
 
 -- want of memory for the text of a stop

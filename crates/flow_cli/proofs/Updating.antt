@@ -5,10 +5,10 @@ use Rattle.flow_model.specs.Schedules.{Prefix}
 use Rattle.flow_model.specs.States.{State}
 use Rattle.flow_journal.specs.Replays.{schedule_of}
 use Rattle.flow_played.specs.Others.{others}
-use Rattle.flow_cli.specs.Causes.{Work}
+use Rattle.flow_load.specs.Causes.{Work}
 use Rattle.flow_cli.specs.Meant.{LeavesMeaning}
-use Rattle.flow_cli.specs.Offers.{AnyKind, net_rules, specs_of}
-use Rattle.flow_cli.specs.Runs.{bytes_in}
+use Rattle.flow_load.specs.Offers.{AnyKind, net_rules, specs_of}
+use Rattle.flow_load.specs.Runs.{bytes_in}
 use Rattle.flow_cli.specs.Updates.{CollatesEach, LeavesBooks}
 use Rattle.flow_cli.proofs.Standards.{are-first, are-first-of, are-standard, standard-well}
 use Rattle.flow_cli.proofs.TopLaws.{Laws}

@@ -16,21 +16,21 @@ use Rattle.flow_offer.specs.Processes.{own_processes}
 use Rattle.flow_journal.specs.Files.{HasJournalOrFault}
 use Rattle.flow_journal.specs.Replays.{schedule_of}
 use Rattle.flow_journal.specs.declared.refusal.Refusal.{Refusal as NoTurn}
-use Rattle.flow_cli.specs.Step.{Filled, OnlyReads, whole, partly}
-use Rattle.flow_cli.specs.Offers.{Taped, specs_of}
-use Rattle.flow_cli.specs.Components.{inputs_of}
-use Rattle.flow_cli.specs.Reads.{Asks, file_of, AreTapes, IsCommand, IsBetween, IsLimitedNext, IsTapesNext, IsInputNext, ReadsBehind}
-use Rattle.flow_cli.specs.Causes.{Work, IsRefused, IsPartless, IsFaulty, IsNoSchedule, IsTapesFaulty, IsMiscounted, IsTooLong, HasCause}
-use Rattle.flow_cli.specs.Top.{IsReplay, IsJournalAt, IsLimitAt, TapesIn, HasTapes, files_behind, AreValid, IsValid}
-use Rattle.flow_cli.specs.declared.stop.NetRefusal.{NetRefusal}
-use Rattle.flow_cli.specs.declared.stop.JournalRefusal.TheVariants.{Byte, Turn}
-use Rattle.flow_cli.specs.declared.stop.TapesRefusal.TheVariants as tapes_refusals
-use Rattle.flow_cli.specs.declared.stop.Stop.{Stop}
-use Rattle.flow_cli.specs.declared.stop.Stop.TheVariants.{Words, Refused, NoPart, JournalRefused, TapesRefused, ReadFault, WriteFault, TooLong, NoMemory}
+use Rattle.flow_load.specs.Step.{Filled, OnlyReads, whole, partly}
+use Rattle.flow_load.specs.Offers.{Taped, specs_of}
+use Rattle.flow_load.specs.Components.{inputs_of}
+use Rattle.flow_load.specs.Reads.{Asks, file_of, AreTapes, IsCommand, IsBetween, IsLimitedNext, IsTapesNext, IsInputNext, ReadsBehind}
+use Rattle.flow_load.specs.Causes.{Work, IsRefused, IsPartless, IsFaulty, IsNoSchedule, IsTapesFaulty, IsMiscounted, IsTooLong, HasCause}
+use Rattle.flow_load.specs.Valid.{IsReplay, IsJournalAt, IsLimitAt, TapesIn, HasTapes, files_behind, AreValid, IsValid}
+use Rattle.flow_load.specs.declared.stop.NetRefusal.{NetRefusal}
+use Rattle.flow_load.specs.declared.stop.JournalRefusal.TheVariants.{Byte, Turn}
+use Rattle.flow_load.specs.declared.stop.TapesRefusal.TheVariants as tapes_refusals
+use Rattle.flow_load.specs.declared.stop.Stop.{Stop}
+use Rattle.flow_load.specs.declared.stop.Stop.TheVariants.{Words, Refused, NoPart, JournalRefused, TapesRefused, ReadFault, WriteFault, TooLong, NoMemory}
 use Rattle.flow_cli.proofs.TopLaws.{Laws}
-use Rattle.flow_cli.proofs.Befores.{on-file}
-use Rattle.flow_cli.proofs.Networks.{holds-or-refused}
-use Rattle.flow_cli.proofs.Readings.{get-last}
+use Rattle.flow_load.proofs.Befores.{on-file}
+use Rattle.flow_load.proofs.Networks.{holds-or-refused}
+use Rattle.flow_load.proofs.Readings.{get-last}
 
 no-command : (words : List (String Global)) (name : Name) → command_of (map string_bytes words) ≡ None → IsCommand words name → ⊥
 no-command words name none is = let h : option_and_then file_of (command_of (map string_bytes words)) ≡ None = ap (λ c. option_and_then file_of c) none in cc

@@ -8,9 +8,10 @@ use Rattle.std.proofs.lemmas.Slice.Eq.{bytes_eq-Decides}
 use Rattle.flow_plan.specs.declared.plan.Process.{Process}
 use Rattle.flow_catalogue.specs.Files.{UsesFile}
 use Rattle.flow_text.specs.Edge.{Name}
-use Rattle.flow_cli.specs.Step.{Filled}
-use Rattle.flow_cli.specs.Components.{written_by, first_option}
-use Rattle.flow_cli.specs.Runs.{outputs_at, outputs_from}
+use Rattle.flow_load.specs.Step.{Filled}
+use Rattle.flow_load.specs.Components.{written_by, first_option}
+use Rattle.flow_load.specs.Runs.{outputs_at, outputs_from}
+use Rattle.flow_load.proofs.Readings.{there_at}
 
 step : (wrote : ℕ → List ℕ) (p k : ℕ) (ps : List Process) (process : Process) → slice_get ps k ≡ Some process
     → outputs_from wrote p (take (suc k) ps) ≡ outputs_from wrote p (take k ps) ++ outputs_at wrote (p + k) process
@@ -38,12 +39,6 @@ none_written p differ =
 pub none-writes : (found : Option Process) → IfSome found (λ p. UsesFile p None) → IfSome found (λ p. written_by p ≡ [])
 none-writes None h = tt
 none-writes (Some p) h = none_written p h.1
-
--- Each place below the length has its process.
-pub there_at : (ps : List Process) (k : ℕ) → k < length ps → (p : Process) × (slice_get ps k ≡ Some p)
-there_at [] k lt = absurd (omega arith)
-there_at (x ∷ xs) zero lt = (x, refl)
-there_at (x ∷ xs) (suc k) lt = there_at xs k (omega arith)
 
 -- a process that writes no file has no output, and one that does has that one
 pub no-output : (wrote : ℕ → List ℕ) (k : ℕ) (found : Option Process) → IfSome found (λ p. written_by p ≡ []) → IfSome found (λ p. outputs_at wrote k p ≡ [])

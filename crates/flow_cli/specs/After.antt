@@ -4,8 +4,8 @@ use Rattle.flow_text.specs.Edge.{Outside, after_write}
 use Rattle.flow_text.specs.WriteAll.{WroteAndFailed}
 use Rattle.flow_report.specs.declared.report.Verdict.{Verdict}
 use Rattle.flow_report.specs.declared.report.Verdict.TheVariants as verdicts
-use Rattle.flow_cli.specs.declared.status.Status.{Status}
-use Rattle.flow_cli.specs.declared.status.Status.TheVariants.{Finished, FinishedLeft, Deadlock, Failed, Running, WriteFault}
+use Rattle.flow_load.specs.declared.status.Status.{Status}
+use Rattle.flow_load.specs.declared.status.Status.TheVariants.{Finished, FinishedLeft, Deadlock, Failed, Running, WriteFault}
 
 -- The status of a run that came to its end.
 abbrev pub verdict_status : Verdict → Status

@@ -7,8 +7,8 @@ use Rattle.flow_model.specs.Plans.{start_of}
 use Rattle.flow_determinate.specs.Standard.{IsDeterminate}
 use Rattle.flow_report.specs.Text.{Told as Report}
 use Rattle.flow_report.specs.States.{TellsOf}
-use Rattle.flow_cli.specs.Offers.{net_rules}
-use Rattle.flow_cli.specs.Reads.{Asks}
+use Rattle.flow_load.specs.Offers.{net_rules}
+use Rattle.flow_load.specs.Reads.{Asks}
 use Rattle.flow_cli.specs.Top.{Call, EndsWell, SaysWell}
 
 -- A run came to its end, and its report is the only one that tells of the state in which it ended. Where its plan is determinate, that is the state in

@@ -15,16 +15,16 @@ use Rattle.flow_machine.specs.Values.{NetValue}
 use Rattle.flow_runner.specs.declared.worked.Worked.{Worked}
 use Rattle.flow_offer.specs.Processes.{IsOfferedPlan}
 use Rattle.flow_cli.specs.Live.{AnyNet}
-use Rattle.flow_cli.specs.Components.{AreLive, GivesAll}
+use Rattle.flow_load.specs.Components.{AreLive, GivesAll}
 use Rattle.flow_cli.specs.Engines.{RanBy}
-use Rattle.flow_cli.specs.Makes.{made_input}
-use Rattle.flow_cli.specs.Networks.{Holds}
-use Rattle.flow_cli.specs.Offers.{AnyKind, Offer, Recorded, IsNothing, known, specs_of}
-use Rattle.flow_cli.specs.Prepare.{so_far}
-use Rattle.flow_cli.specs.Reads.{Asks, IsReady}
-use Rattle.flow_cli.specs.Runs.{Leaves}
+use Rattle.flow_load.specs.MadeJobs.{made_input}
+use Rattle.flow_load.specs.Networks.{Holds}
+use Rattle.flow_load.specs.Offers.{AnyKind, Offer, Recorded, IsNothing, known, specs_of}
+use Rattle.flow_load.specs.Prepare.{so_far}
+use Rattle.flow_load.specs.Reads.{Asks, IsReady}
+use Rattle.flow_cli.specs.Leaves.{Leaves}
 use Rattle.flow_cli.specs.Top.{HasRun, Says, Performs, recorded_by, recorded_in}
-use Rattle.flow_cli.specs.Causes.{HasCause}
+use Rattle.flow_load.specs.Causes.{HasCause}
 use Rattle.flow_cli.specs.Workers.{IsMadeBy, IsMadeAsAsked}
 use Rattle.flow_cli.specs.declared.begin.Begun.{Begun}
 use Rattle.flow_cli.specs.declared.begin.Begun.TheVariants as begins
@@ -35,8 +35,8 @@ use Rattle.flow_cli.specs.declared.ran.Ran.{Ran}
 use Rattle.flow_cli.specs.declared.run.Done.{Done}
 use Rattle.flow_cli.specs.declared.run.Said.{Said}
 use Rattle.flow_cli.specs.declared.run.Unwritten.{Unwritten}
-use Rattle.flow_cli.specs.declared.stop.Stop.{Stop}
-use Rattle.flow_cli.specs.declared.stop.Stop.TheVariants.{NoMemory}
+use Rattle.flow_load.specs.declared.stop.Stop.{Stop}
+use Rattle.flow_load.specs.declared.stop.Stop.TheVariants.{NoMemory}
 
 -- The run that was asked for is under way: all that it reads was read, its components are live, and this is its net at the start.
 pub record IsRunUnderWay (own : List KindSpec) (old new : Outside) (words : List (String Global)) (plan : Network) (asked : AskedRun) (start : NetValue AnyKind) : Type 0 where

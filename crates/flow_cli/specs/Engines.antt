@@ -1,7 +1,7 @@
 -- Who makes the turns of a network: one thread, or workers in threads.
 use Rattle.std.specs.Prelude.{◌≡◌, ◌≤◌, ℕ}
 use Rattle.flow_component.specs.Laws.{Rules}
-use Rattle.flow_cli.specs.Offers.{AnyKind, live_rules}
+use Rattle.flow_load.specs.Offers.{AnyKind, live_rules}
 use Rattle.flow_runner.specs.declared.worked.Worked.{Worked}
 use Rattle.flow_runner.specs.Crews.{HasWorkers, turns_of_crew}
 use Rattle.flow_floor.specs.Shut.{IsShut}

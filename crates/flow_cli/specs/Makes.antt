@@ -1,33 +1,25 @@
 -- A make: the network and the input that are made from a number, run, and what is told of it.
-use Rattle.std.specs.Prelude.{◌≡◌, ℕ, ◌+◌, List, [], ◌∷◌, ◌++◌, length, Some, None, Ok, Err, IfSome, slice_get, codes}
-use Rattle.std.specs.declared.option.Option.{Option}
-use Rattle.std.specs.declared.result.Result.{Result}
+use Rattle.std.specs.Prelude.{◌≡◌, ℕ, ◌+◌, List, [], ◌∷◌, ◌++◌, length, IfSome, slice_get, codes}
 use Rattle.std.specs.Fmt.{decimal}
 use Rattle.std.specs.List.{flat_map}
 use Rattle.flow_plan.specs.declared.plan.Process.{Process}
 use Rattle.flow_plan.specs.Network.{Network}
 use Rattle.flow_parse.specs.declared.value.NetText.{NetText}
 use Rattle.flow_make.specs.Lines.{text_of}
-use Rattle.flow_make.specs.Input.{input_lines}
 use Rattle.flow_make.specs.Network.{network_lines}
 use Rattle.flow_journal.specs.declared.merge.Journal.{Journal}
 use Rattle.flow_model.specs.States.{State}
 use Rattle.flow_cli.specs.Live.{AnyNet}
-use Rattle.flow_cli.specs.Offers.{AnyKind}
-use Rattle.flow_cli.specs.Components.{AreComponents, AreLive, GivesAll, written_by}
+use Rattle.flow_load.specs.Offers.{AnyKind}
+use Rattle.flow_load.specs.Components.{AreComponents, GivesAll, written_by}
 use Rattle.flow_offer.specs.Processes.{IsOfferedPlan}
-use Rattle.flow_cli.specs.Networks.{Holds}
-use Rattle.flow_cli.specs.Runs.{RunsTo, bytes_at}
+use Rattle.flow_load.specs.Networks.{Holds}
+use Rattle.flow_load.specs.Runs.{RunsTo}
+use Rattle.flow_cli.specs.Leaves.{bytes_at}
 use Rattle.flow_cli.specs.After.{verdict_status}
 use Rattle.flow_cli.specs.declared.ran.Ran.{Ran}
-use Rattle.flow_cli.specs.declared.made.MadeJob.{MadeJob}
 use Rattle.flow_cli.specs.declared.run.Said.{Said}
-use Rattle.flow_cli.specs.declared.stop.Stop.{Stop}
-use Rattle.flow_cli.specs.declared.stop.Stop.TheVariants.{NoMemory}
-
--- The input that is made from a number.
-abbrev pub made_input : ℕ → List ℕ
-made_input number = text_of (input_lines number)
+use Rattle.flow_load.specs.MadeJobs.{made_input}
 
 -- The line that tells how long the file is that this process would write, if it writes one; where `wrote` says what each process wrote.
 abbrev pub output_lines_at : (ℕ → List ℕ) → ℕ → Process → List ℕ
@@ -54,17 +46,6 @@ pub record IsRunOfMade (number workers : ℕ) (plan : Network) (journal : Journa
   pub components : List AnyKind
   pub are_components : AreComponents [] plan given [] components
   pub run : RunsTo workers plan components journal last
-
--- There are so many places for parts, and no part in any.
-pub record AreNoParts {P : Type 0} (count : ℕ) (parts : List (Option P)) : Type 0 where
-  pub many : length parts ≡ count
-  pub each : (p : ℕ) (part : Option P) → slice_get parts p ≡ Some part → part ≡ None
-
--- The made network of this number, ready to run, and how many bytes its input has. It is never refused.
-abbrev pub IsMadeJob : ℕ → Result (MadeJob AnyKind) Stop → Type 0
-IsMadeJob number (Ok made) = ((text : NetText) × Holds [] (text_of network_lines) text made.job.plan) × IsOfferedPlan [] made.job.plan
-    × ((given : List (List ℕ)) × GivesAll made.job.plan (made_input number) given × AreLive [] made.job.plan given made.job.components.items) × (made.bytes ≡ length (made_input number))
-IsMadeJob number (Err stop) = stop ≡ NoMemory
 
 -- What is said of a make from this number, of the run that was made.
 pub record SaysOfMake (number : ℕ) (ran : Ran AnyNet) (said : Said) : Type 0 where

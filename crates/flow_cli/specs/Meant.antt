@@ -7,13 +7,13 @@ use Rattle.flow_words.specs.Words.{AskedRun, run_of, Check, Judge, Replay, Make,
 use Rattle.flow_model.specs.Rising.{LeadsOn}
 use Rattle.flow_played.specs.Others.{others}
 use Rattle.flow_offer.specs.Processes.{own_processes}
-use Rattle.flow_cli.specs.Offers.{specs_of}
+use Rattle.flow_load.specs.Offers.{specs_of}
 use Rattle.flow_catalogue.specs.declared.standard.Std.{Std}
 use Rattle.flow_report.specs.Text.{Told as Report}
 use Rattle.flow_meanings.specs.Composition.{Composes}
-use Rattle.flow_cli.specs.Reads.{Asks}
-use Rattle.flow_cli.specs.Causes.{Work}
-use Rattle.flow_cli.specs.Runs.{bytes_in}
+use Rattle.flow_load.specs.Reads.{Asks}
+use Rattle.flow_load.specs.Causes.{Work}
+use Rattle.flow_load.specs.Runs.{bytes_in}
 use Rattle.flow_cli.specs.Top.{IsWhole}
 
 -- The run that was asked for was made, and all its files were written whole. Of this one network and this one run, where no process is of a kind of the caller's own, its writers' files are

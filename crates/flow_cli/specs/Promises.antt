@@ -2,10 +2,11 @@
 use Rattle.std.specs.Prelude.{◌≡◌}
 use Rattle.flow_cli.specs.Alone.{ComesToEndAsAlone}
 use Rattle.flow_cli.specs.Meant.{LeavesMeaning}
-use Rattle.flow_cli.specs.Statuses.{IsFinished, IsOver}
-use Rattle.flow_cli.specs.Top.{Call, ComesToEnd, IsCaused, IsComplete, IsReplay}
+use Rattle.flow_load.specs.Statuses.{IsFinished, IsOver}
+use Rattle.flow_cli.specs.Top.{Call, ComesToEnd, IsCaused, IsComplete}
+use Rattle.flow_load.specs.Valid.{IsReplay}
 use Rattle.flow_cli.specs.Updates.{CollatesEach, LeavesBooks}
-use Rattle.flow_cli.specs.declared.status.Status.TheVariants.{Running}
+use Rattle.flow_load.specs.declared.status.Status.TheVariants.{Running}
 
 -- What every call keeps, by workers or without.
 pub record KeepsPromises (c : Call) : Type 0 where

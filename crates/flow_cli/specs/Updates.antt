@@ -11,12 +11,12 @@ use Rattle.flow_model.specs.Plans.{start_of}
 use Rattle.flow_journal.specs.Replays.{schedule_of}
 use Rattle.flow_meanings.specs.Batches.{AreCollated, WritesBooks}
 use Rattle.flow_meanings.specs.SortingBatches.{WritesUnsortedBooks}
-use Rattle.flow_cli.specs.Causes.{Work, IsRunOf}
+use Rattle.flow_load.specs.Causes.{Work, IsRunOf}
 use Rattle.flow_cli.specs.Meant.{IsMeant, ChangesNoName}
 use Rattle.flow_offer.specs.Processes.{own_processes}
-use Rattle.flow_cli.specs.Offers.{AnyKind, net_rules, specs_of}
-use Rattle.flow_cli.specs.Reads.{Asks}
-use Rattle.flow_cli.specs.Runs.{bytes_in}
+use Rattle.flow_load.specs.Offers.{AnyKind, net_rules, specs_of}
+use Rattle.flow_load.specs.Reads.{Asks}
+use Rattle.flow_load.specs.Runs.{bytes_in}
 
 -- Wherever a run of standard processes stood, each Collate that had ended there had sent the collation of what its elements got.
 abbrev pub CollatesEach : Work → Type 0

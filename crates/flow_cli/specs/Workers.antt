@@ -5,8 +5,8 @@ use Rattle.flow_words.specs.Words.{Asked, workers_asked}
 use Rattle.flow_runner.specs.declared.worked.Crew.{Crew}
 use Rattle.flow_runner.specs.Crews.{HasWorkers, turns_of_crew, stamped}
 use Rattle.flow_journal.specs.declared.merge.Journal.{Journal}
-use Rattle.flow_cli.specs.Offers.{IsEmptyJournal}
-use Rattle.flow_cli.specs.Reads.{Asks}
+use Rattle.flow_load.specs.Offers.{IsEmptyJournal}
+use Rattle.flow_load.specs.Reads.{Asks}
 
 -- The turns of a journal were made by this crew, and they are so many workers: all turns that each of them made are together those of the journal, with
 -- their places there for stamps. Where they are none one thread made the turns.

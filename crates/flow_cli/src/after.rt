@@ -2,14 +2,12 @@
 ghost use Rattle.std.specs.Prelude.{◌≡◌, ◌++◌, OnOk, map};
 ghost use Rattle.flow_offer.specs.Processes.{IsOfferedPlan};
 ghost use Rattle.flow_cli.specs.After.{Prints, verdict_status};
-ghost use Rattle.flow_cli.specs.Many.{WritesFiles, output_of};
+ghost use Rattle.flow_load.specs.Many.{WritesFiles, output_of};
 ghost use Rattle.flow_cli.specs.Top.{kept_file, outputs_of_run};
 
 use crate::live::LiveNet;
-use crate::many::{Output, write_files};
 use crate::run::{Kept, Unwritten};
-use crate::status::Status;
-use crate::stop::Stop;
+use flow_load::{Output, Status, Stop, write_files};
 use flow_own::Part;
 use flow_plan::KindSpec;
 use flow_report::Verdict;

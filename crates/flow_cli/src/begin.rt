@@ -2,13 +2,12 @@
 ghost use Rattle.std.specs.Prelude.{◌≡◌, List, length};
 ghost use Rattle.flow_offer.specs.Kinds.{AreOwnKinds};
 ghost use Rattle.flow_cli.specs.Begins.{Begins, workers_to};
-ghost use Rattle.flow_cli.specs.Offers.{AreOffered, Offer};
+ghost use Rattle.flow_load.specs.Offers.{AreOffered, Offer};
 
-use crate::before::{Task, prepare};
 use crate::live::LiveNet;
 use crate::run::{Said, judgement, page, run_again, spelling};
 use crate::start::{start, start_made};
-use crate::stop::Stop;
+use flow_load::{Stop, Task, prepare};
 use flow_own::Part;
 use flow_plan::{KindSpec, Plan};
 use flow_text::Shelf;

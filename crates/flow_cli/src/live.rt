@@ -4,7 +4,7 @@ ghost use Rattle.std.specs.Prelude.{◌≡◌, ◌≤◌, IfOk, length};
 ghost use Rattle.flow_limits.specs.declared.TheConstants.{CONNECTION_LIMIT};
 ghost use Rattle.flow_model.specs.Plans.{StartsWell};
 ghost use Rattle.flow_machine.specs.Starts.{StartsNet};
-ghost use Rattle.flow_cli.specs.Offers.{known, live_rules};
+ghost use Rattle.flow_load.specs.Offers.{known, live_rules};
 
 use flow_catalogue::Std;
 use flow_machine::Net;

@@ -1,35 +1,19 @@
-//! A make: the network and the input that are made from a number, run, and what is said of it.
-ghost use Rattle.std.specs.Prelude.{◌≡◌, ◌<◌, ◌≤◌, ◌++◌, ◌∷◌, [], IfOk, OnOk, codes, length};
+//! What is said of a make: of the network and the input that are made from a number, when they have run.
+ghost use Rattle.std.specs.Prelude.{◌≡◌, ◌<◌, ◌++◌, ◌∷◌, [], IfOk, OnOk, codes, length};
 ghost use Rattle.std.specs.Fmt.{decimal};
 ghost use Rattle.flow_offer.specs.Processes.{IsOfferedPlan};
-ghost use Rattle.flow_cli.specs.Makes.{AreNoParts, IsMadeJob, PutsOutput, SaysOfMake, made_input, make_text, output_lines_from};
-ghost use Rattle.flow_cli.specs.Runs.{bytes_at};
+ghost use Rattle.flow_load.specs.MadeJobs.{made_input};
+ghost use Rattle.flow_cli.specs.Makes.{PutsOutput, SaysOfMake, make_text, output_lines_from};
+ghost use Rattle.flow_cli.specs.Leaves.{bytes_at};
 
 use crate::after::verdict_status;
-use crate::before::Job;
-use crate::components::live_components;
-use crate::inputs::give_inputs;
 use crate::live::LiveNet;
-use crate::made_plan::the_made_network_has_a_plan;
-use crate::net_file::network;
 use crate::outputs::{written_at, written_name};
 use crate::ran::Ran;
 use crate::run::Said;
-use crate::stop::Stop;
-use flow_catalogue::Std;
-use flow_component::Component;
-use flow_limits::NUMBER_LIMIT;
-use flow_make::make;
-use flow_own::{Mixed, Part};
+use flow_own::Part;
 use flow_text::put_decimal;
 use std::alloc::{AllocError, Global};
-
-/// A made network that can run, and how many bytes its input has.
-#[derive(Drop)]
-pub(crate) struct MadeJob<K: Component> {
-    pub job: Job<K>,
-    pub bytes: usize,
-}
 
 /// What is said of a make whose run is over.
 pub(crate) fn said_of_make<P: Part>(
@@ -51,39 +35,6 @@ pub(crate) fn said_of_make<P: Part>(
         tapes: account.tapes,
         crew: account.crew,
     })
-}
-
-/// The made network with its components. It is never refused, since its text has a plan.
-pub(crate) fn job_of<P: Part>(alloc: Global, number: u32) -> Result<MadeJob<Mixed<Std, P>>, Stop>
-    requires least { 1 ≤ number }
-    requires most { number ≤ NUMBER_LIMIT }
-    ensures { IsMadeJob number result }
-{
-    the_made_network_has_a_plan();
-    let made = make(alloc, number)?;
-    let input = made.input.as_slice();
-    let plan = match network(alloc, made.network.as_slice(), &[]) {
-        Ok(file) => file.plan,
-        Err(stop) => return Err(stop),
-    };
-    let given = give_inputs(alloc, &plan, input)?;
-    let parts = no_parts(alloc, plan.processes().len())?;
-    let components = live_components(alloc, &plan, &[], given, parts)?;
-    Ok(MadeJob {
-        job: Job { plan, components },
-        bytes: input.len(),
-    })
-}
-
-// No part for each of so many processes.
-fn no_parts<P: Part>(alloc: Global, count: usize) -> Result<Vec<Option<P>>, AllocError>
-    ensures { IfOk result (λ parts. AreNoParts count parts.items) }
-{
-    let mut parts = Vec::new(alloc);
-    for _place in 0..count {
-        parts.push(None)?;
-    }
-    Ok(parts)
 }
 
 // What is said of a make.

@@ -2,14 +2,15 @@
 ghost use Rattle.std.specs.Prelude.{◌≡◌, ◌<◌, ◌∷◌, [], IfOk, IfSome, IfNone, length, map, option_and_then, slice_get};
 ghost use Rattle.std.specs.Option.{option_copied};
 ghost use Rattle.flow_offer.specs.Processes.{IsOfferedPlan};
-ghost use Rattle.flow_cli.specs.Components.{written_by};
-ghost use Rattle.flow_cli.specs.Many.{output_of};
-ghost use Rattle.flow_cli.specs.Runs.{bytes_at, net_outputs, written_in};
+ghost use Rattle.flow_load.specs.Components.{written_by};
+ghost use Rattle.flow_load.specs.Many.{output_of};
+ghost use Rattle.flow_cli.specs.Leaves.{bytes_at, net_outputs};
+ghost use Rattle.flow_load.specs.Runs.{written_in};
 
 use crate::live::LiveNet;
-use crate::many::Output;
 use crate::ran::Ran;
 use flow_catalogue::{FileUse, Std, file_of};
+use flow_load::Output;
 use flow_offer::own_kind;
 use flow_own::{Mix, Mixed, Part, Sorted};
 use flow_plan::{KindSpec, Plan};

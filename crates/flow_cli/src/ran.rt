@@ -2,7 +2,7 @@
 ghost use Rattle.std.specs.Prelude.{◌≡◌, IfOk};
 ghost use Rattle.flow_offer.specs.Processes.{IsOfferedPlan};
 ghost use Rattle.flow_cli.specs.Begins.{LeavesAsRan};
-ghost use Rattle.flow_cli.specs.Runs.{AreTapesOfNet, IsJournalOfNet, IsRecordedAt, IsToldOfNet, tape_by};
+ghost use Rattle.flow_cli.specs.Leaves.{AreTapesOfNet, IsJournalOfNet, IsRecordedAt, IsToldOfNet, tape_by};
 
 use crate::live::{LiveNet, LiveWorked};
 use flow_catalogue::Std;

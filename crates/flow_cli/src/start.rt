@@ -2,17 +2,15 @@
 ghost use Rattle.std.specs.Prelude.{◌≡◌, ◌≤◌, ℕ, List, IfOk};
 ghost use Rattle.flow_machine.specs.Starts.{StartsNet};
 ghost use Rattle.flow_offer.specs.Processes.{IsOfferedPlan};
-ghost use Rattle.flow_cli.specs.Components.{AreLive};
+ghost use Rattle.flow_load.specs.Components.{AreLive};
 ghost use Rattle.flow_cli.specs.Begins.{BeginsMake};
-ghost use Rattle.flow_cli.specs.Offers.{known};
+ghost use Rattle.flow_load.specs.Offers.{known};
 
-use crate::before::Job;
 use crate::begin::{Goal, Running};
 use crate::live::LiveNet;
-use crate::made::job_of;
-use crate::stop::Stop;
 use flow_catalogue::Std;
 use flow_limits::NUMBER_LIMIT;
+use flow_load::{Job, Stop, job_of_make};
 use flow_model::a_valid_plan_is_ready;
 use flow_offer::own_components_fit;
 use flow_own::{Mixed, Part};
@@ -49,7 +47,7 @@ pub(crate) fn start_made<'a, P: Part>(
     requires most { number ≤ NUMBER_LIMIT }
     ensures { BeginsMake number workers result }
 {
-    let made = match job_of(alloc, number) {
+    let made = match job_of_make(alloc, number) {
         Ok(made) => made,
         Err(stop) => return Err(stop),
     };

@@ -5,27 +5,25 @@ ghost use Rattle.flow_text.specs.Edge.{Outside};
 ghost use Rattle.flow_offer.specs.Kinds.{AreOwnKinds};
 ghost use Rattle.flow_offer.specs.Processes.{IsOfferedPlan};
 ghost use Rattle.flow_runner.specs.Crews.{HasWorkers};
-ghost use Rattle.flow_cli.specs.Offers.{AreOffered, IsNothing, Offer, offers_of, specs_of};
+ghost use Rattle.flow_load.specs.Offers.{AreOffered, IsNothing, Offer, offers_of, specs_of};
 ghost use Rattle.flow_cli.specs.Promises.{KeepsPromises};
-ghost use Rattle.flow_cli.specs.Reads.{AsksWorkers};
+ghost use Rattle.flow_load.specs.Reads.{AsksWorkers};
 ghost use Rattle.flow_cli.specs.Top.{Concludes, Finishes, IsManned, IsRunnable, Performs, PrintsStop, PrintsWritten, call_of, recorded_by, recorded_of};
 
 use crate::after::{print_text, verdict_status, write_outputs};
 use crate::begin::{Begun, begin};
 use crate::crew::{run_alone, run_by_workers};
 use crate::live::LiveNet;
-use crate::offers::{OwnKind, kinds_and_parts};
 use crate::over::over;
 use crate::ran::{Account, PrintedReport};
 use crate::run::{Done, Unwritten, no_journal};
-use crate::status::Status;
-use crate::stop::Stop;
 use flow_catalogue::{Std, standard_components_come_to_one_outcome};
 use flow_component::Gate;
 use flow_determinate::a_determinate_plan_ends_as_on_one_thread;
 use flow_journal::{
     Journal, a_file_has_one_journal_or_one_fault, a_journal_that_stops_is_no_schedule,
 };
+use flow_load::{OwnKind, Status, Stop, kinds_and_parts};
 use flow_meanings::{
     a_batch_update_that_sorts_writes_its_book, a_batch_update_writes_its_book,
     a_finished_network_composes_its_meanings, an_ended_collate_has_sent_the_collation,

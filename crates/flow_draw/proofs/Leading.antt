@@ -1,20 +1,14 @@
 -- What making the turns of a journal again comes to.
-use Rattle.std.proofs.Common.{◌≡◌, ℕ, List, Err, Ok}
+use Rattle.std.proofs.Common.{List, Ok}
 use Rattle.flow_plan.specs.Network.{Network}
-use Rattle.flow_model.specs.Plans.{start_of, StartsWell}
+use Rattle.flow_model.specs.Plans.{StartsWell}
 use Rattle.flow_model.specs.States.{State}
 use Rattle.flow_machine.specs.Values.{NetValue}
 use Rattle.flow_cycle.specs.Nets.{IsReached}
-use Rattle.flow_journal.specs.Replays.{schedule_of, StopsAtTurn, StopsFrom}
+use Rattle.flow_journal.specs.Replays.{schedule_of}
 use Rattle.flow_journal.specs.Runs.{ComesOfSchedule}
 use Rattle.flow_journal.specs.declared.merge.Journal.{Journal}
-use Rattle.flow_journal.specs.declared.refusal.Refusal.{Refusal as NoTurn}
-use Rattle.flow_journal.specs.declared.refusal.ReplayStop.{ReplayStop}
-use Rattle.flow_journal.specs.declared.refusal.ReplayStop.TheVariants as replays
-use Rattle.flow_cli.specs.Offers.{AnyKind, net_rules}
-use Rattle.flow_cli.specs.Runs.{stop_of_replay}
-use Rattle.flow_cli.specs.declared.stop.Stop.{Stop}
-use Rattle.flow_cli.proofs.LeavingAgain as leaving
+use Rattle.flow_load.specs.Offers.{AnyKind, net_rules}
 use Rattle.flow_drawing.specs.declared.drawing.Remarks.{Remarks}
 use Rattle.flow_draw.specs.Draws.{RemarksAfter}
 use Rattle.flow_draw.specs.States.{TellsOf}
@@ -28,10 +22,3 @@ remarks-tell plan components net journal remarks well comes tells = (
   comes.schedule,
   tells comes.last (record { components = components; well = well; journal = schedule_of journal; leads = comes.schedule.leads; stands = comes.stands }),
 )
-
--- A replay that stops has stopped from the start of the plan.
-pub stopped-again : (plan : Network) (components : List AnyKind) (start : NetValue AnyKind) (journal : Journal) (stop : ReplayStop) (result : Stop)
-    → ((place p : ℕ) (refusal : NoTurn) → StopsFrom net_rules start journal (replays.NoTurn place p refusal)
-    → StopsAtTurn net_rules (start_of plan components) (schedule_of journal) place p refusal)
-    → StopsFrom net_rules start journal stop → result ≡ stop_of_replay stop → RemarksAfter plan components journal (Err result)
-stopped-again plan components start journal stop result law stops is = leaving.stopped-again plan components start journal stop result law stops is

@@ -2,8 +2,8 @@
 use Rattle.std.proofs.Common.{◌≡◌, ◌∙◌, List, [], length, sym, ap}
 use Rattle.flow_plan.specs.Network.{Network}
 use Rattle.flow_offer.specs.Processes.{own_processes}
-use Rattle.flow_cli.specs.Offers.{Taped}
-use Rattle.flow_cli.proofs.Overs.{none-own}
+use Rattle.flow_load.specs.Offers.{Taped}
+use Rattle.flow_load.proofs.NoKinds.{none-own}
 
 -- No tapes are as many as there are processes of kinds of the caller's own.
 pub no-tapes : (plan : Network) (tapes : List Taped) → tapes ≡ [] → length tapes ≡ length (own_processes [] plan)

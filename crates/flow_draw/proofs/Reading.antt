@@ -7,19 +7,19 @@ use Rattle.flow_text.specs.Edge.{Outside, Name, Files}
 use Rattle.flow_plan.specs.Network.{Network}
 use Rattle.flow_parse.specs.declared.value.NetText.{NetText}
 use Rattle.flow_journal.specs.declared.merge.Journal.{Journal}
-use Rattle.flow_cli.specs.Step.{Filled, OnlyReads, FailsToRead, Unended, IsRead, GivesMore, HoldsMore, whole}
-use Rattle.flow_cli.specs.Networks.{ReadsAs}
-use Rattle.flow_cli.specs.Offers.{AnyKind}
-use Rattle.flow_cli.specs.Components.{AreComponents, IsNext, StopsAtFile, ReadsInputs}
-use Rattle.flow_cli.specs.Prepare.{ReadsJournal}
-use Rattle.flow_cli.specs.Reads.{IsFile, IsJournalFile, IsReady, ShowsFault}
-use Rattle.flow_cli.specs.Runs.{MakesAgain}
-use Rattle.flow_cli.specs.declared.net_file.NetFile.{NetFile}
-use Rattle.flow_cli.specs.declared.stop.JournalRefusal.TheVariants.{Byte, Turn}
-use Rattle.flow_cli.specs.declared.stop.Stop.{Stop}
-use Rattle.flow_cli.specs.declared.stop.Stop.TheVariants.{Words, Refused, NoPart, JournalRefused, TapesRefused, ReadFault, WriteFault, TooLong, NoMemory}
-use Rattle.flow_cli.proofs.Steps.{may-read, MayRead-trans}
-use Rattle.flow_cli.proofs.Readings.{OnlyReads-trans, FailsToRead-after, GivesMore-after, OnlyReads-files}
+use Rattle.flow_load.specs.Step.{Filled, OnlyReads, FailsToRead, Unended, IsRead, GivesMore, HoldsMore, whole}
+use Rattle.flow_load.specs.Networks.{ReadsAs}
+use Rattle.flow_load.specs.Offers.{AnyKind}
+use Rattle.flow_load.specs.Components.{AreComponents, IsNext, StopsAtFile, ReadsInputs}
+use Rattle.flow_load.specs.Prepare.{ReadsJournal}
+use Rattle.flow_load.specs.Reads.{IsFile, IsJournalFile, IsReady, ShowsFault}
+use Rattle.flow_load.specs.Causes.{StopsAgain}
+use Rattle.flow_load.specs.declared.net_file.NetFile.{NetFile}
+use Rattle.flow_load.specs.declared.stop.JournalRefusal.TheVariants.{Byte, Turn}
+use Rattle.flow_load.specs.declared.stop.Stop.{Stop}
+use Rattle.flow_load.specs.declared.stop.Stop.TheVariants.{Words, Refused, NoPart, JournalRefused, TapesRefused, ReadFault, WriteFault, TooLong, NoMemory}
+use Rattle.flow_load.proofs.Steps.{may-read, MayRead-trans}
+use Rattle.flow_load.proofs.Readings.{OnlyReads-trans, FailsToRead-after, GivesMore-after, OnlyReads-files}
 use Rattle.flow_draw.specs.Causes.{IsLimitedNext, IsJournalNext, StopsFor}
 use Rattle.flow_draw.specs.Loads.{Loads}
 
@@ -165,7 +165,7 @@ module _ (old mid new : Outside) (name net kept bytes : Name) (journal : Journal
 -- A journal that is no schedule of its network.
 pub replay-stopped : (old new : Outside) (name kept bytes : Name) (journal : Journal) (plan : Network) (given : List (List ℕ)) (components : List AnyKind)
     → IsJournalFile old.files kept bytes journal → IsReady [] old new name ((kept, bytes) ∷ []) plan given → AreComponents [] plan given [] components
-    → (stop : Stop) → MakesAgain plan components journal (Err stop) → StopsFor old new name (Some kept) stop
+    → (stop : Stop) → StopsAgain plan components journal stop → StopsFor old new name (Some kept) stop
 replay-stopped old new name kept bytes journal plan given components is_journal ready are (JournalRefused (Turn place p refusal)) s = record {
   kept = kept;
   keeps_is = refl;

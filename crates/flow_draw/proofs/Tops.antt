@@ -7,10 +7,10 @@ use Rattle.std.specs.declared.option.Option.{Option}
 use Rattle.flow_text.specs.Edge.{Outside, Name}
 use Rattle.flow_plan.specs.Network.{Network}
 use Rattle.flow_drawing.specs.declared.drawing.Remarks.{Remarks}
-use Rattle.flow_cli.specs.Step.{MayRead}
-use Rattle.flow_cli.specs.declared.stop.Stop.{Stop}
-use Rattle.flow_cli.specs.declared.stop.Stop.TheVariants.{Words, Refused, NoPart, JournalRefused, TapesRefused, ReadFault, WriteFault, TooLong, NoMemory}
-use Rattle.flow_cli.proofs.Steps.{may-read, no-reads}
+use Rattle.flow_load.specs.Step.{MayRead}
+use Rattle.flow_load.specs.declared.stop.Stop.{Stop}
+use Rattle.flow_load.specs.declared.stop.Stop.TheVariants.{Words, Refused, NoPart, JournalRefused, TapesRefused, ReadFault, WriteFault, TooLong, NoMemory}
+use Rattle.flow_load.proofs.Steps.{may-read, no-reads}
 use Rattle.flow_draw.specs.Causes.{StopsFor}
 use Rattle.flow_draw.specs.Draws.{Call, Ends, HasCause, IsPicture, Prints, ShowsBy}
 use Rattle.flow_draw.specs.Words.{Asked, asked_by, asked_in_call, asked_of}

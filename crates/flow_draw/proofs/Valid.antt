@@ -8,15 +8,15 @@ use Rattle.flow_model.specs.Plans.{start_of}
 use Rattle.flow_journal.specs.Files.{HasJournalOrFault}
 use Rattle.flow_journal.specs.Replays.{schedule_of, StopsAreNoSchedules}
 use Rattle.flow_journal.specs.declared.refusal.Refusal.{Refusal as NoTurn}
-use Rattle.flow_cli.specs.Step.{Filled, OnlyReads, whole, partly}
-use Rattle.flow_cli.specs.Offers.{net_rules}
-use Rattle.flow_cli.specs.Components.{inputs_of}
-use Rattle.flow_cli.specs.declared.stop.NetRefusal.{NetRefusal}
-use Rattle.flow_cli.specs.declared.stop.JournalRefusal.TheVariants.{Byte, Turn}
-use Rattle.flow_cli.specs.declared.stop.Stop.{Stop}
-use Rattle.flow_cli.specs.declared.stop.Stop.TheVariants.{Words, Refused, NoPart, JournalRefused, TapesRefused, ReadFault, WriteFault, TooLong, NoMemory}
-use Rattle.flow_cli.proofs.Networks.{holds-or-refused}
-use Rattle.flow_cli.proofs.Readings.{get-last}
+use Rattle.flow_load.specs.Step.{Filled, OnlyReads, whole, partly}
+use Rattle.flow_load.specs.Offers.{net_rules}
+use Rattle.flow_load.specs.Components.{inputs_of}
+use Rattle.flow_load.specs.declared.stop.NetRefusal.{NetRefusal}
+use Rattle.flow_load.specs.declared.stop.JournalRefusal.TheVariants.{Byte, Turn}
+use Rattle.flow_load.specs.declared.stop.Stop.{Stop}
+use Rattle.flow_load.specs.declared.stop.Stop.TheVariants.{Words, Refused, NoPart, JournalRefused, TapesRefused, ReadFault, WriteFault, TooLong, NoMemory}
+use Rattle.flow_load.proofs.Networks.{holds-or-refused}
+use Rattle.flow_load.proofs.Readings.{get-last}
 use Rattle.flow_draw.specs.Causes.{IsFaulty, IsLimitedNext, IsNoSchedule, IsRefused, IsTooLong, StopsFor}
 use Rattle.flow_draw.specs.Complete.{AreValid, IsJournalAt, IsValid, NoFaults}
 use Rattle.flow_draw.specs.Draws.{Call, Ends, HasCause}

@@ -9,15 +9,15 @@ use Rattle.flow_model.specs.Plans.{start_of}
 use Rattle.flow_journal.specs.Replays.{schedule_of, StopsAtTurn}
 use Rattle.flow_journal.specs.declared.merge.Journal.{Journal}
 use Rattle.flow_journal.specs.declared.refusal.Refusal.{Refusal as NoTurn}
-use Rattle.flow_cli.specs.Step.{Filled, OnlyReads, FailsToRead, MayRead, Unended, IsRead, GivesMore, HoldsMore, whole}
-use Rattle.flow_cli.specs.Offers.{AnyKind, net_rules}
-use Rattle.flow_cli.specs.Components.{AreComponents, IsNext}
-use Rattle.flow_cli.specs.Networks.{RefusedFor}
-use Rattle.flow_cli.specs.Reads.{IsFile, IsJournalFile, IsReady, ShowsFault}
-use Rattle.flow_cli.specs.declared.stop.NetRefusal.{NetRefusal}
-use Rattle.flow_cli.specs.declared.stop.JournalRefusal.TheVariants.{Byte, Turn}
-use Rattle.flow_cli.specs.declared.stop.Stop.{Stop}
-use Rattle.flow_cli.specs.declared.stop.Stop.TheVariants.{Words, Refused, NoPart, JournalRefused, TapesRefused, ReadFault, WriteFault, TooLong, NoMemory}
+use Rattle.flow_load.specs.Step.{Filled, OnlyReads, FailsToRead, MayRead, Unended, IsRead, GivesMore, HoldsMore, whole}
+use Rattle.flow_load.specs.Offers.{AnyKind, net_rules}
+use Rattle.flow_load.specs.Components.{AreComponents, IsNext}
+use Rattle.flow_load.specs.Networks.{RefusedFor}
+use Rattle.flow_load.specs.Reads.{IsFile, IsJournalFile, IsReady, ShowsFault}
+use Rattle.flow_load.specs.declared.stop.NetRefusal.{NetRefusal}
+use Rattle.flow_load.specs.declared.stop.JournalRefusal.TheVariants.{Byte, Turn}
+use Rattle.flow_load.specs.declared.stop.Stop.{Stop}
+use Rattle.flow_load.specs.declared.stop.Stop.TheVariants.{Words, Refused, NoPart, JournalRefused, TapesRefused, ReadFault, WriteFault, TooLong, NoMemory}
 
 -- The network file of this name was read whole, and nothing but it; and it is refused for this.
 pub record IsRefused (old new : Outside) (name : Name) (refusal : NetRefusal) : Type 0 where

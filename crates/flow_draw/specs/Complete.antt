@@ -5,9 +5,9 @@ use Rattle.flow_limits.specs.declared.TheConstants.{FILE_LIMIT}
 use Rattle.flow_text.specs.Edge.{Name, Logged, Rose}
 use Rattle.flow_plan.specs.Network.{Network}
 use Rattle.flow_parse.specs.declared.value.NetText.{NetText}
-use Rattle.flow_cli.specs.Networks.{Holds}
-use Rattle.flow_cli.specs.Top.{GaveAt, IsValidReplay}
-use Rattle.flow_cli.specs.declared.stop.Stop.TheVariants.{NoMemory}
+use Rattle.flow_load.specs.Networks.{Holds}
+use Rattle.flow_load.specs.Valid.{GaveAt, IsValidReplay}
+use Rattle.flow_load.specs.declared.stop.Stop.TheVariants.{NoMemory}
 use Rattle.flow_draw.specs.Words.{Asked, asked_in_call}
 use Rattle.flow_draw.specs.Draws.{Call}
 use Rattle.flow_draw.specs.declared.status.DrawStatus.{DrawStatus}

@@ -12,16 +12,16 @@ use Rattle.flow_catalogue.specs.Kinds.{std_kinds}
 use Rattle.flow_journal.specs.Replays.{schedule_of}
 use Rattle.flow_journal.specs.Runs.{IsScheduled}
 use Rattle.flow_journal.specs.declared.merge.Journal.{Journal}
-use Rattle.flow_cli.specs.Step.{OnlyReads, MayRead, whole}
-use Rattle.flow_cli.specs.Offers.{AnyKind, net_rules}
-use Rattle.flow_cli.specs.Components.{AreComponents}
-use Rattle.flow_cli.specs.Reads.{IsFile, IsJournalFile, IsReady}
-use Rattle.flow_cli.specs.Runs.{MakesAgain}
-use Rattle.flow_cli.specs.Stops.{status_of}
-use Rattle.flow_cli.specs.declared.status.Status.{Status}
-use Rattle.flow_cli.specs.declared.status.Status.TheVariants as statuses
-use Rattle.flow_cli.specs.declared.stop.Stop.{Stop}
-use Rattle.flow_cli.specs.declared.stop.Stop.TheVariants.{Words, NoMemory}
+use Rattle.flow_load.specs.Step.{OnlyReads, MayRead, whole}
+use Rattle.flow_load.specs.Offers.{AnyKind, net_rules}
+use Rattle.flow_load.specs.Components.{AreComponents}
+use Rattle.flow_load.specs.Reads.{IsFile, IsJournalFile, IsReady}
+use Rattle.flow_load.specs.Causes.{StopsAgain}
+use Rattle.flow_load.specs.Stops.{status_of}
+use Rattle.flow_load.specs.declared.status.Status.{Status}
+use Rattle.flow_load.specs.declared.status.Status.TheVariants as statuses
+use Rattle.flow_load.specs.declared.stop.Stop.{Stop}
+use Rattle.flow_load.specs.declared.stop.Stop.TheVariants.{Words, NoMemory}
 use Rattle.flow_drawing.specs.declared.drawing.Remarks.{Remarks}
 use Rattle.flow_drawing.specs.declared.quote.Form.{Form}
 use Rattle.flow_drawing.specs.Drawings.{drawing_of}
@@ -71,7 +71,7 @@ Reads old new name keeps (Err stop) = StopsFor old new name keeps stop
 abbrev pub RemarksAfter : Network → List AnyKind → Journal → Result Remarks Stop → Type 0
 RemarksAfter plan components journal (Ok remarks) =
     (last : State AnyKind) × IsScheduled net_rules plan components (schedule_of journal) last × TellsOf plan last remarks
-RemarksAfter plan components journal (Err stop) = MakesAgain plan components journal (Err stop)
+RemarksAfter plan components journal (Err stop) = StopsAgain plan components journal stop
 
 -- The text of a drawing of a plan with these remarks.
 abbrev pub picture_of : Form → Network → Remarks → List ℕ

@@ -4,11 +4,11 @@ use Rattle.std.specs.declared.result.Result.{Result}
 use Rattle.flow_text.specs.Edge.{Outside, Name}
 use Rattle.flow_plan.specs.Network.{Network}
 use Rattle.flow_parse.specs.declared.value.NetText.{NetText}
-use Rattle.flow_cli.specs.Step.{OnlyReads, whole}
-use Rattle.flow_cli.specs.Components.{StopsAtFile}
-use Rattle.flow_cli.specs.Reads.{IsFile}
-use Rattle.flow_cli.specs.declared.stop.Stop.{Stop}
-use Rattle.flow_cli.specs.declared.stop.Stop.TheVariants.{Refused}
+use Rattle.flow_load.specs.Step.{OnlyReads, whole}
+use Rattle.flow_load.specs.Components.{StopsAtFile}
+use Rattle.flow_load.specs.Reads.{IsFile}
+use Rattle.flow_load.specs.declared.stop.Stop.{Stop}
+use Rattle.flow_load.specs.declared.stop.Stop.TheVariants.{Refused}
 use Rattle.flow_draw.specs.Causes.{IsRefused}
 
 -- It was read whole, and nothing but it, and this is its plan; or it is refused, or a read of it stopped.

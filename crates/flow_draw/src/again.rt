@@ -1,16 +1,15 @@
 //! The turns of a journal, made again, and what a drawing says of the state to which they lead.
-ghost use Rattle.std.specs.Prelude.{◌≡◌, ◌≤◌, [], length};
+ghost use Rattle.std.specs.Prelude.{◌≤◌, [], length};
 ghost use Rattle.flow_offer.specs.Processes.{IsOfferedPlan};
-ghost use Rattle.flow_cli.specs.Components.{HasComponents};
-ghost use Rattle.flow_cli.specs.Runs.{stop_of_replay};
+ghost use Rattle.flow_load.specs.Components.{HasComponents};
 ghost use Rattle.flow_draw.specs.Draws.{RemarksAfter};
 
 use crate::remarks::remarks_of;
 use flow_catalogue::Std;
-use flow_cli::{JournalRefusal, Stop};
 use flow_drawing::Remarks;
-use flow_journal::{Journal, ReplayStop, a_replay_of_a_net_is_scheduled, replay};
+use flow_journal::{Journal, a_replay_of_a_net_is_scheduled, replay};
 use flow_limits::RUN_LIMIT;
+use flow_load::{Stop, replay_stop};
 use flow_machine::Net;
 use flow_model::a_valid_plan_is_ready;
 use flow_offer::own_components_fit;
@@ -41,23 +40,5 @@ pub fn remarks_after(
             Ok(remarks?)
         }
         Err(stop) => Err(replay_stop(stop)),
-    }
-}
-
-// The stop of a journal that isn't a schedule of its network.
-fn replay_stop(stop: ReplayStop) -> Stop
-    ensures { result ≡ stop_of_replay stop }
-{
-    match stop {
-        ReplayStop::NoTurn {
-            place,
-            process,
-            refusal,
-        } => Stop::JournalRefused(JournalRefusal::Turn {
-            place,
-            process,
-            refusal,
-        }),
-        ReplayStop::NoMemory => Stop::NoMemory,
     }
 }

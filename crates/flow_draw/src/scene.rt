@@ -5,9 +5,11 @@ ghost use Rattle.flow_draw.specs.Draws.{Reads};
 ghost use Rattle.flow_draw.specs.Loads.{Loads};
 
 use crate::again::remarks_after;
-use flow_cli::{Stop, network, played_components, read_file, read_inputs, read_journal, read_stop};
 use flow_drawing::Remarks;
 use flow_limits::FILE_LIMIT;
+use flow_load::{
+    Stop, network, played_components, read_file, read_inputs, read_journal, read_stop,
+};
 use flow_plan::Plan;
 use flow_text::Shelf;
 use std::alloc::{AllocError, Global};

@@ -2,7 +2,7 @@
 ghost use Rattle.std.specs.Prelude.{◌≡◌};
 ghost use Rattle.flow_draw.specs.Draws.{program_status};
 
-use flow_cli::{Status, Stop};
+use flow_load::{Status, Stop};
 use std::alloc::{AllocError, Global};
 
 /// How a call ended.

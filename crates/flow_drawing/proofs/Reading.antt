@@ -1,17 +1,24 @@
 -- What is quoted is read back.
-use Rattle.std.proofs.Common.{◌≡◌, ◌≢◌, ℕ, zero, suc, ◌+◌, ◌-◌, ◌*◌, ◌/◌, ◌%◌, ◌==◌, ◌<◌, ◌≤◌, nat_lt, nat_le, Bool, true, false, cond, ◌&&◌, ◌||◌, if◌then◌else◌, List, [], ◌∷◌, ◌++◌, codes, refl, sym, ◌∙◌, ap, arith, All, append_assoc}
+use Rattle.std.proofs.Common.{◌≡◌, ◌≢◌, ℕ, ◌+◌, ◌*◌, ◌/◌, ◌%◌, ◌==◌, ◌<◌, nat_le, Bool, true, false, not, ◌||◌, if◌then◌else◌, List, [], ◌∷◌, ◌++◌, codes, chars, refl, sym, ◌∙◌, ap, arith, All, append_assoc}
 use Rattle.std.specs.List.{flat_map}
-use Rattle.std.specs.Str.{IsUtf8, is_utf8}
-use Rattle.std.proofs.lemmas.Grind.{common_steps}
-use Rattle.std.proofs.lemmas.Str.{IsUtf8-from_is_utf8, is_utf8-from_IsUtf8}
+use Rattle.std.specs.Char.{encode_utf8}
+use Rattle.std.specs.Str.{IsUtf8, is_utf8, encode_utf8_all}
+use Rattle.std.proofs.lemmas.Str.{IsUtf8-from_is_utf8, is_utf8-from_IsUtf8, encodes-chars}
 use Rattle.std.proofs.lemmas.List.Elements.{All-head, All-tail, All-cons, All-append}
 use Rattle.flow_drawing.specs.declared.quote.Form.{Form}
 use Rattle.flow_drawing.specs.declared.quote.Form.TheVariants.{Mermaid, Dot}
-use Rattle.flow_drawing.specs.Quotes.{dot_after, dot_byte, entity, hex_digit, hex_value, is_between, is_plain, label_read, mermaid_after, mermaid_byte, quoted, quoted_byte, seen_after, shown, shown_byte, stands, unquoted, IsByte}
+use Rattle.flow_drawing.specs.Quotes.{dot_after, dot_byte, drives, entity, hex_digit, hex_value, is_plain, label_read, mermaid_after, mermaid_byte, quoted, quoted_byte, seen_after, shown, shown_byte, shown_letter, stands, unquoted, IsByte}
 
 -- what isn't UTF-8 fails the test
-pub not_utf8 : (bytes : List ℕ) → (IsUtf8 bytes → ⊥) → false ≡ is_utf8 bytes
+not_utf8 : (bytes : List ℕ) → (IsUtf8 bytes → ⊥) → false ≡ is_utf8 bytes
 not_utf8 bytes none = elim (is_utf8 bytes) as (λ b. is_utf8 bytes ≡ b → false ≡ b) [ true ↦ λ e. absurd (none (IsUtf8-from_is_utf8 bytes e)) | false ↦ λ e. refl ] refl
+
+-- what is shown of a text that is UTF-8, and of one that isn't
+pub letters-shown : (text : List ℕ) → IsUtf8 text → flat_map shown_letter (chars text) ≡ shown text
+letters-shown text is = ap (λ t. if t then flat_map shown_letter (chars text) else flat_map (shown_byte false) text) (sym (is_utf8-from_IsUtf8 text is))
+
+pub bytes-shown : (text : List ℕ) → (IsUtf8 text → ⊥) → flat_map (shown_byte false) text ≡ shown text
+bytes-shown text none = ap (λ t. if t then flat_map shown_letter (chars text) else flat_map (shown_byte false) text) (not_utf8 text none)
 
 -- a digit is read back
 hex_back : (d : ℕ) → d < 16 → hex_value (hex_digit d) ≡ d
@@ -43,8 +50,39 @@ all-back f read none each [] bytes = none
 all-back f read none each (b ∷ bs) bytes =
     each b (flat_map f bs) (All-head IsByte b bs bytes) ∙ ap (λ (l : List ℕ). b ∷ l) (all-back f read none each bs (All-tail IsByte b bs bytes))
 
+-- bytes before others
+bytes-back : (u : Bool) (bytes rest : List ℕ) → All IsByte bytes → seen_after 0 0 (flat_map (shown_byte u) bytes ++ rest) ≡ bytes ++ seen_after 0 0 rest
+bytes-back u [] rest all = refl
+bytes-back u (b ∷ bs) rest all =
+    ap (seen_after 0 0) (append_assoc (shown_byte u b) (flat_map (shown_byte u) bs) rest)
+    ∙ shown_byte-back u b (flat_map (shown_byte u) bs ++ rest) (All-head IsByte b bs all)
+    ∙ ap (λ (l : List ℕ). b ∷ l) (bytes-back u bs rest (All-tail IsByte b bs all))
+
+-- what holds of two lists together holds of each
+all-front : (xs ys : List ℕ) → All IsByte (xs ++ ys) → All IsByte xs
+all-front [] ys all = λ k d below. absurd (omega (arith, below))
+all-front (x ∷ xs) ys all = All-cons IsByte x xs (All-head IsByte x (xs ++ ys) all) (all-front xs ys (All-tail IsByte x (xs ++ ys) all))
+
+all-behind : (xs ys : List ℕ) → All IsByte (xs ++ ys) → All IsByte ys
+all-behind [] ys all = all
+all-behind (x ∷ xs) ys all = all-behind xs ys (All-tail IsByte x (xs ++ ys) all)
+
+letters-back : (cs : List ℕ) → All IsByte (encode_utf8_all cs) → seen_after 0 0 (flat_map shown_letter cs) ≡ encode_utf8_all cs
+letters-back [] all = refl
+letters-back (c ∷ cs) all =
+    bytes-back (not (drives c)) (encode_utf8 c) (flat_map shown_letter cs) (all-front (encode_utf8 c) (encode_utf8_all cs) all)
+    ∙ ap (λ (l : List ℕ). encode_utf8 c ++ l) (letters-back cs (all-behind (encode_utf8 c) (encode_utf8_all cs) all))
+
+-- the characters of a text spell it
+spelled : (text : List ℕ) → is_utf8 text ≡ true → encode_utf8_all (chars text) ≡ text
+spelled text is = encodes-chars text (IsUtf8-from_is_utf8 text is)
+
 shown-back : (text : List ℕ) → All IsByte text → seen_after 0 0 (shown text) ≡ text
-shown-back text bytes = all-back (shown_byte (is_utf8 text)) (seen_after 0 0) refl (shown_byte-back (is_utf8 text)) text bytes
+shown-back text bytes =
+    elim (is_utf8 text) as (λ t. is_utf8 text ≡ t → seen_after 0 0 (if t then flat_map shown_letter (chars text) else flat_map (shown_byte false) text) ≡ text) [
+      | true ↦ λ e. letters-back (chars text) (rw (spelled text e) bytes) ∙ spelled text e
+      | false ↦ λ e. all-back (shown_byte false) (seen_after 0 0) refl (shown_byte-back false) text bytes
+    ] refl
 
 -- what is shown is bytes
 shown_byte-bytes : (u : Bool) (b : ℕ) → IsByte b → All IsByte (shown_byte u b)
@@ -61,8 +99,17 @@ all-bytes : (u : Bool) (text : List ℕ) → All IsByte text → All IsByte (fla
 all-bytes u [] bytes = bytes
 all-bytes u (b ∷ bs) bytes = All-append IsByte (shown_byte u b) (flat_map (shown_byte u) bs) (shown_byte-bytes u b (All-head IsByte b bs bytes)) (all-bytes u bs (All-tail IsByte b bs bytes))
 
+letters-bytes : (cs : List ℕ) → All IsByte (encode_utf8_all cs) → All IsByte (flat_map shown_letter cs)
+letters-bytes [] all = all
+letters-bytes (c ∷ cs) all =
+    All-append IsByte (shown_letter c) (flat_map shown_letter cs)
+    (all-bytes (not (drives c)) (encode_utf8 c) (all-front (encode_utf8 c) (encode_utf8_all cs) all))
+    (letters-bytes cs (all-behind (encode_utf8 c) (encode_utf8_all cs) all))
+
 shown-bytes : (text : List ℕ) → All IsByte text → All IsByte (shown text)
-shown-bytes text bytes = all-bytes (is_utf8 text) text bytes
+shown-bytes text bytes =
+    elim (is_utf8 text) as (λ t. is_utf8 text ≡ t → All IsByte (if t then flat_map shown_letter (chars text) else flat_map (shown_byte false) text))
+    [ true ↦ λ e. letters-bytes (chars text) (rw (spelled text e) bytes) | false ↦ λ e. all-bytes false text bytes ] refl
 
 -- a decimal digit within a number
 digit-back : (d c : ℕ) (rest : List ℕ) → d < 10 → mermaid_after true c ((48 + d) ∷ rest) ≡ mermaid_after true (c * 10 + d) rest

@@ -1,8 +1,8 @@
 -- How texts stand in a drawing, and how they are read back. (This project's own, so that a viewer shows what is told of here: a label of Mermaid takes numbers of
 -- characters between # and ;, and one of DOT a backslash before " and \, and numbers between &# and ;.)
-use Rattle.std.specs.Prelude.{◌≡◌, ℕ, ◌<◌, zero, suc, ◌+◌, ◌-◌, ◌*◌, ◌/◌, ◌%◌, ◌==◌, nat_lt, nat_le, Bool, true, false, not, ◌&&◌, ◌||◌, if◌then◌else◌, List, [], ◌∷◌, ◌++◌, codes}
+use Rattle.std.specs.Prelude.{◌≡◌, ℕ, ◌<◌, zero, suc, ◌+◌, ◌-◌, ◌*◌, ◌/◌, ◌%◌, ◌==◌, nat_lt, nat_le, Bool, true, false, not, ◌&&◌, ◌||◌, if◌then◌else◌, List, [], ◌∷◌, ◌++◌, codes, chars}
 use Rattle.std.specs.List.{All, flat_map}
-use Rattle.std.specs.Char.{is_ascii_alphanumeric}
+use Rattle.std.specs.Char.{encode_utf8, is_ascii_alphanumeric}
 use Rattle.std.specs.Str.{is_utf8}
 use Rattle.flow_drawing.specs.declared.quote.Form.{Form}
 use Rattle.flow_drawing.specs.declared.quote.Form.TheVariants.{Mermaid, Dot}
@@ -23,17 +23,26 @@ hex_digit d = if nat_lt d 10 then 48 + d else 87 + d
 abbrev pub hex_value : ℕ → ℕ
 hex_value b = if nat_lt b 58 then b - 48 else b - 87
 
--- Whether a byte stands for itself where a text is shown: a printable one of ASCII does, but for the backslash, and one beyond ASCII where the whole text is UTF-8.
+-- Whether a character drives what shows it, and isn't seen itself: a control beyond ASCII, one that sets the direction of what stands round it, or one that ends a line. (The
+-- numbers are Unicode's.)
+abbrev pub drives : ℕ → Bool
+drives c = is_between 0x80 0x9f c || c == 0x61c || is_between 0x200e 0x200f c || is_between 0x2028 0x202e c || is_between 0x2066 0x2069 c
+
+-- Whether a byte stands for itself where a text is shown: a printable one of ASCII does, but for the backslash, and one beyond ASCII where its character may stand.
 abbrev pub stands : Bool → ℕ → Bool
-stands utf8 b = if b == 92 then false else (if nat_lt b 128 then is_between 32 126 b else utf8)
+stands may b = if b == 92 then false else (if nat_lt b 128 then is_between 32 126 b else may)
 
 -- A byte as it is shown: as itself, or as \x and the two hexadecimal digits of its number.
 abbrev pub shown_byte : Bool → ℕ → List ℕ
-shown_byte utf8 b = if stands utf8 b then b ∷ [] else codes "\\x" ++ hex_digit (b / 16) ∷ hex_digit (b % 16) ∷ []
+shown_byte may b = if stands may b then b ∷ [] else codes "\\x" ++ hex_digit (b / 16) ∷ hex_digit (b % 16) ∷ []
 
--- A text as it is shown: in printable characters alone.
+-- A character as it is shown: by the bytes that spell it, which may stand where it drives nothing.
+abbrev pub shown_letter : ℕ → List ℕ
+shown_letter c = flat_map (shown_byte (not (drives c))) (encode_utf8 c)
+
+-- A text as it is shown, in characters alone that drive nothing: by its characters where it is UTF-8, and else by its bytes, of which none beyond ASCII stands.
 abbrev pub shown : List ℕ → List ℕ
-shown text = flat_map (shown_byte (is_utf8 text)) text
+shown text = if is_utf8 text then flat_map shown_letter (chars text) else flat_map (shown_byte false) text
 
 -- What is shown is read back, where n bytes of a number are still to come, and c is the first of its digits.
 abbrev pub seen_after : ℕ → ℕ → List ℕ → List ℕ

@@ -1,8 +1,7 @@
 //! Texts as a drawing has them.
-ghost use Rattle.std.specs.Prelude.{◌≡◌, ◌++◌, ◌<◌, IfOk, OnOk};
+ghost use Rattle.std.specs.Prelude.{◌≡◌, ◌++◌, ◌<◌, chars, IfOk, OnOk};
 ghost use Rattle.std.specs.List.{flat_map};
-ghost use Rattle.std.specs.Str.{is_utf8};
-ghost use Rattle.flow_drawing.specs.Quotes.{dot_byte, entity, hex_digit, is_between, is_plain, mermaid_byte, quoted, quoted_byte, shown, shown_byte, stands, ReadsBack};
+ghost use Rattle.flow_drawing.specs.Quotes.{dot_byte, drives, entity, hex_digit, is_between, is_plain, mermaid_byte, quoted, quoted_byte, shown, shown_byte, shown_letter, stands, ReadsBack};
 
 use std::alloc::{AllocError, Global};
 
@@ -21,16 +20,6 @@ fn is_between(least: u8, most: u8, byte: u8) -> bool
     least <= byte && byte <= most
 }
 
-// Whether the bytes are UTF-8.
-fn is_text(bytes: &[u8]) -> bool
-    ensures { result ≡ is_utf8 bytes.now }
-{
-    match str::from_utf8(bytes) {
-        Ok(_) => true,
-        Err(_) => false,
-    }
-}
-
 // A digit of a hexadecimal number.
 fn hex_digit(digit: u8) -> u8
     requires { digit < 16 }
@@ -39,23 +28,42 @@ fn hex_digit(digit: u8) -> u8
     if digit < 10 { 48 + digit } else { 87 + digit }
 }
 
+// Whether a number of a character is within bounds.
+fn is_within(least: u32, most: u32, code: u32) -> bool
+    ensures { result ≡ is_between least most code }
+{
+    least <= code && code <= most
+}
+
+// Whether a character drives what shows it, a terminal above all.
+fn drives(letter: char) -> bool
+    ensures { result ≡ drives letter }
+{
+    let code = letter as u32;
+    is_within(0x80, 0x9f, code)
+        || code == 0x61c
+        || is_within(0x200e, 0x200f, code)
+        || is_within(0x2028, 0x202e, code)
+        || is_within(0x2066, 0x2069, code)
+}
+
 // Whether a byte stands for itself where a text is shown.
-fn stands(utf8: bool, byte: u8) -> bool
-    ensures { result ≡ stands utf8 byte }
+fn stands(may: bool, byte: u8) -> bool
+    ensures { result ≡ stands may byte }
 {
     if byte == 92 {
         false
     } else if byte < 128 {
         is_between(32, 126, byte)
     } else {
-        utf8
+        may
     }
 }
 
-fn put_shown_byte(out: &mut Vec<u8>, utf8: bool, byte: u8) -> Result<(), AllocError>
-    ensures { OnOk result (out.new.items ≡ out.old.items ++ shown_byte utf8 byte) }
+fn put_shown_byte(out: &mut Vec<u8>, may: bool, byte: u8) -> Result<(), AllocError>
+    ensures { OnOk result (out.new.items ≡ out.old.items ++ shown_byte may byte) }
 {
-    if stands(utf8, byte) {
+    if stands(may, byte) {
         out.push(byte)?;
         return Ok(());
     }
@@ -65,14 +73,41 @@ fn put_shown_byte(out: &mut Vec<u8>, utf8: bool, byte: u8) -> Result<(), AllocEr
     Ok(())
 }
 
-// A text with each control character, each backslash, and each byte that is none of a text by its number.
+fn put_shown_bytes(out: &mut Vec<u8>, may: bool, bytes: &[u8]) -> Result<(), AllocError>
+    ensures { OnOk result (out.new.items ≡ out.old.items ++ flat_map (shown_byte may) bytes.now) }
+{
+    for byte in bytes {
+        put_shown_byte(out, may, *byte)?;
+    }
+    Ok(())
+}
+
+fn put_shown_letter(out: &mut Vec<u8>, letter: char) -> Result<(), AllocError>
+    ensures { OnOk result (out.new.items ≡ out.old.items ++ shown_letter letter) }
+{
+    let mut room = [0; 4];
+    let spelled = letter.encode_utf8(&mut room);
+    put_shown_bytes(out, !drives(letter), spelled.as_bytes())
+}
+
+fn put_shown_text(out: &mut Vec<u8>, text: &str) -> Result<(), AllocError>
+    ensures { OnOk result (out.new.items ≡ out.old.items ++ flat_map shown_letter (chars text.now)) }
+{
+    for letter in text.chars() {
+        put_shown_letter(out, letter)?;
+    }
+    Ok(())
+}
+
+// A text with each backslash, each character that drives what shows it, and each byte that is none of a text by its
+// number.
 fn shown(alloc: Global, text: &[u8]) -> Result<Vec<u8>, AllocError>
     ensures { IfOk result (λ seen. seen.items ≡ shown text.now) }
 {
-    let utf8 = is_text(text);
     let mut seen = Vec::new(alloc);
-    for byte in text {
-        put_shown_byte(&mut seen, utf8, *byte)?;
+    match str::from_utf8(text) {
+        Ok(text) => put_shown_text(&mut seen, text)?,
+        Err(_) => put_shown_bytes(&mut seen, false, text)?,
     }
     Ok(seen)
 }

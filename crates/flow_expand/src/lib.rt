@@ -1,4 +1,4 @@
-//! From the text of a network, subnets included, to its plan, and the words in which a refusal is told. `flow_cli`
+//! From the text of a network, subnets included, to its plan, and the words in which a refusal is told. `flow_load`
 //! makes plans by it. The contract is that of `expand`: the plan that the text has by `flow_flat`, or the fault that
 //! comes first in it.
 #![tactic(auto)]

@@ -26,5 +26,5 @@ mod words;
 
 pub use called::{expect_kept, words_of};
 pub use near::nearest;
-pub use refusal::put_refusal;
+pub use refusal::{put_refusal, put_too_large};
 pub use shown::{put_all, put_word};

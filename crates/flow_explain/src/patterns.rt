@@ -1,8 +1,10 @@
-//! Where a text that was given for a pattern stops being one.
-use crate::found::Found;
-use crate::pieces::{Piece, behind, pieces};
+//! Where a text that was given for a pattern stops being one, and which pattern is too large to be compiled.
+use crate::found::{Found, Walk};
+use crate::net::put_found;
+use crate::pieces::{Piece, behind, is_line_end, pieces};
+use crate::said::{Mention, Tag};
 use crate::shown::put_behind;
-use flow_pattern::slip_in;
+use flow_pattern::{is_too_large, slip_in};
 use std::alloc::{AllocError, Global};
 
 // The text that a line gives, as it is spelled between its quotes; none where it gives none.
@@ -57,4 +59,38 @@ fn put_place(page: &mut String, rest: &[u8]) -> Result<(), AllocError> {
         return page.push_str("at its end");
     }
     put_behind(page, "at ", rest)
+}
+
+fn is_for_pattern(mention: Option<Mention<'_>>) -> bool {
+    match mention {
+        Some(mention) => mention.port == b"PATTERN".as_slice(),
+        None => false,
+    }
+}
+
+// Whether a line gives a pattern that is too large to be compiled.
+fn gives_large(alloc: Global, found: &Found<'_>) -> Result<bool, AllocError> {
+    if found.said.tag != Tag::Initial || !is_for_pattern(found.said.to) {
+        return Ok(false);
+    }
+    let Some(spelled) = spelled(alloc, found)? else {
+        return Ok(false);
+    };
+    let text = text_of(alloc, spelled)?;
+    is_too_large(alloc, &text)
+}
+
+/// Shows the first line that gives a pattern which is too large to be compiled, where there is one.
+pub fn put_large(alloc: Global, page: &mut String, net: &[u8]) -> Result<(), AllocError> {
+    let mut walk = Walk::new();
+    for line in net.split(is_line_end) {
+        let found = walk.next_line(alloc, line)?;
+        if gives_large(alloc, &found)? {
+            put_found(page, &found)?;
+            return page.push_str(
+                "PATTERN takes more than some 10 MiB when it is compiled, its repetitions written out.\n",
+            );
+        }
+    }
+    Ok(())
 }

@@ -4,6 +4,7 @@ ghost use Rattle.flow_parse.specs.Values.{IsNetText};
 
 use crate::line::put_fault;
 use crate::own::{OwnKinds, put_no_part};
+use crate::patterns::put_large;
 use crate::refused::put_refused;
 use flow_expand::{ExpandStop, expand};
 use flow_files::FileShelf;
@@ -30,6 +31,19 @@ pub fn put_refusal<R: Files<File = File> + Eprint + Drop>(
 {
     match bytes_of(alloc, rt, name) {
         Some(net) => put_opened(alloc, page, &net, OwnKinds { kinds: own }, parts),
+        None => Ok(()),
+    }
+}
+
+/// Explains why memory was wanting for the network file of this name, where a pattern in it is too large.
+pub fn put_too_large<R: Files<File = File> + Eprint + Drop>(
+    alloc: Global,
+    rt: &R,
+    page: &mut String,
+    name: &str,
+) -> Result<(), AllocError> {
+    match bytes_of(alloc, rt, name) {
+        Some(net) => put_large(alloc, page, &net),
         None => Ok(()),
     }
 }

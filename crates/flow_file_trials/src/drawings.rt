@@ -1,5 +1,5 @@
-//! Drawings to their last byte, and texts of every kind in their quotes.
-use flow_drawing::{Drawing, Edge, Form, Given, Mark, Node, Remark, Row, put_quoted};
+//! A drawing to its last byte, in both languages.
+use flow_drawing::{Drawing, Edge, Form, Given, Mark, Node, Remark, Row};
 use flow_items::{Items, Text};
 use std::alloc::{AllocError, Global};
 use std::test::Fail;
@@ -64,37 +64,5 @@ fn a_drawing_is_spelled(rt: HostRuntime) -> Result<(), Fail> {
         dot.as_slice(),
         b"digraph {\nrankdir=LR\nnode [shape=box]\nsubgraph cluster_0_0 {\nlabel=\"subnet B\"\np0 [label=\"B.x: K\\nidle\", style=dashed]\n}\no0_0 [shape=oval, label=\"'\\\"7\\\"'\"]\no0_0 -> p0 [label=\"O\"]\np0 -> p0 [label=\"*OUT, IN[1], capacity 3\", style=dotted]\n}\n".as_slice()
     );
-    Ok(())
-}
-
-#[test]
-fn texts_are_quoted(rt: HostRuntime) -> Result<(), Fail> {
-    let rows: [(&[u8], &[u8], &[u8]); 6] = [
-        (b"in/a-1.txt, 'x'", b"in/a-1.txt, 'x'", b"in/a-1.txt, 'x'"),
-        (b"a\nb\x7f", b"a#92;x0ab#92;x7f", b"a\\\\x0ab\\\\x7f"),
-        (b"\\x0a", b"#92;x5cx0a", b"\\\\x5cx0a"),
-        (
-            b"a \"b\" #c; `d`",
-            b"a #34;b#34; #35;c#59; #96;d#96;",
-            b"a \\\"b\\\" #c; `d`",
-        ),
-        (b"<b>&amp;~", b"#60;b#62;#38;amp#59;#126;", b"<b>&#38;amp;~"),
-        (
-            b"\xc3\xbc\xff",
-            b"#92;xc3#92;xbc#92;xff",
-            b"\\\\xc3\\\\xbc\\\\xff",
-        ),
-    ];
-    for (text, mermaid, dot) in rows {
-        let mut out = Vec::new(rt.alloc());
-        put_quoted(&mut out, Form::Mermaid, text)?;
-        assert_eq!(rt; out.as_slice(), mermaid);
-        let mut out = Vec::new(rt.alloc());
-        put_quoted(&mut out, Form::Dot, text)?;
-        assert_eq!(rt; out.as_slice(), dot);
-    }
-    let mut out = Vec::new(rt.alloc());
-    put_quoted(&mut out, Form::Mermaid, b"\xc3\xbc")?;
-    assert_eq!(rt; out.as_slice(), b"\xc3\xbc".as_slice());
     Ok(())
 }

@@ -1,20 +1,21 @@
 //! The access of a file that replaces another one.
+ghost use Rattle.std.specs.Prelude.{◌≡◌};
+ghost use Rattle.flow_files.specs.Access.{kept_mode};
+
+use crate::seen::Seen;
 use std::fs::{File, Permissions};
 use std::io;
 use std::io::ErrorKind;
-use std::os::unix::fs::{MetadataExt, PermissionsExt, fchown};
+use std::os::unix::fs::{PermissionsExt, fchown};
 
-/// Gives an open file the owner, the group and the mode that another one has, as far as this process may. No name is
-/// asked for: whoever may write to the folder could have exchanged what it stands for.
-pub fn keep_access(file: &File, old: &File) -> io::Result<()> {
-    let found = old.metadata()?;
+/// Gives an open file this owner, group and mode, as far as this process may. No name is asked for.
+pub fn keep_access(file: &File, old: Seen) -> io::Result<()> {
     // Only root sets the owner, and a member of the group may still set that.
-    unless_denied(fchown(file, None, Some(found.gid())))?;
-    unless_denied(fchown(file, Some(found.uid()), None))?;
-    let given = file.metadata()?;
-    let is_owned = given.uid() == found.uid();
-    let mode = kept_mode(found.mode(), is_owned, given.gid() == found.gid());
-    file.set_permissions(Permissions::from_mode(mode))
+    unless_denied(fchown(file, None, Some(old.group)))?;
+    unless_denied(fchown(file, Some(old.owner), None))?;
+    let given = Seen::of(&file.metadata()?);
+    let is_same = given.owner == old.owner && given.group == old.group;
+    file.set_permissions(Permissions::from_mode(kept_mode(old.mode, is_same)))
 }
 
 fn unless_denied(outcome: io::Result<()>) -> io::Result<()> {
@@ -24,15 +25,14 @@ fn unless_denied(outcome: io::Result<()>) -> io::Result<()> {
     }
 }
 
-/// The mode of a file whose owner or group may be another one than before: nobody may do more than before, neither
-/// the members of a group that takes the place of the old one, nor who runs the file.
-fn kept_mode(mode: u32, same_owner: bool, same_group: bool) -> u32 {
-    let mut kept = mode & 0o7777;
-    if !same_owner || !same_group {
-        kept &= 0o1777;
+/// The mode of a file that takes the place of one with this mode. Where its owner or its group is another one, nobody
+/// runs it as them, and who is in that group may do no more than all others.
+fn kept_mode(mode: u32, is_same: bool) -> u32
+    ensures { result ≡ kept_mode mode is_same }
+{
+    if is_same {
+        mode & 0o7777
+    } else {
+        mode & (0o1707 + (mode & 0o007) * 8)
     }
-    if !same_group {
-        kept &= 0o1707 | ((mode & 0o007) << 3);
-    }
-    kept
 }

@@ -1,28 +1,16 @@
 //! Which files of a call are one file: told by device and number, whatever their names are.
+use crate::seen::Identity;
 use crate::system::Output;
 use std::alloc::{AllocError, Global};
 use std::fs::{File, Files, Metadata};
 use std::io;
 use std::io::ErrorKind;
-use std::os::unix::fs::MetadataExt;
 
-/// A regular file, as the system tells it from others.
-#[derive(Clone, Copy, PartialEq, Eq)]
-struct Identity {
-    device: u64,
-    number: u64,
-}
-
-impl Identity {
-    /// Of a device, a pipe and the like none: it isn't replaced.
-    fn of(found: io::Result<Metadata>) -> Option<Identity> {
-        match found {
-            Ok(found) if found.is_file() => Some(Identity {
-                device: found.dev(),
-                number: found.ino(),
-            }),
-            _ => None,
-        }
+/// Of a device, a pipe and the like none: it isn't replaced.
+fn regular(found: io::Result<Metadata>) -> Option<Identity> {
+    match found {
+        Ok(found) if found.is_file() => Some(Identity::of(&found)),
+        _ => None,
     }
 }
 
@@ -71,12 +59,12 @@ impl Known {
     }
 
     pub fn add_read(&mut self, file: &File) -> Result<(), AllocError> {
-        self.read.push(Identity::of(file.metadata()))?;
+        self.read.push(regular(file.metadata()))?;
         Ok(())
     }
 
     pub fn add_written(&mut self, output: &Output) -> Result<(), AllocError> {
-        self.written.push(Identity::of(output.metadata()))?;
+        self.written.push(regular(output.metadata()))?;
         Ok(())
     }
 
@@ -92,7 +80,7 @@ impl Known {
 
     fn admit_named<R: Files>(&self, rt: &R, kept: Kept, name: &Option<String>) -> io::Result<()> {
         match name {
-            Some(name) => self.admit_as(kept, Identity::of(rt.metadata(name.as_str()))),
+            Some(name) => self.admit_as(kept, regular(rt.metadata(name.as_str()))),
             None => Ok(()),
         }
     }
@@ -114,7 +102,7 @@ impl Known {
     /// Whether an open file may be written over. The network file may not. Of what is another file of this call the
     /// standard error tells.
     pub fn admit<R: Eprint>(&self, rt: &R, name: &str, file: &File) -> io::Result<()> {
-        let file = Identity::of(file.metadata());
+        let file = regular(file.metadata());
         if let Some(kept) = self.kept_as(name) {
             self.admit_as(kept, file)?;
         }

@@ -5,8 +5,12 @@
 
 mod access;
 mod again;
+mod folder;
 mod known;
+mod opened;
 mod place;
+mod replacing;
+mod seen;
 mod shelf;
 mod stdout;
 mod streams;

@@ -1,90 +1,148 @@
 //! Where the name of an output leads to.
+use crate::folder::Folder;
+use crate::opened::{at_beginning, or_no_memory};
+use crate::seen::{Identity, Seen};
 use crate::system::OutputError;
-use std::alloc::Global;
+use std::alloc::{AllocError, Global};
 use std::fs::{File, Files};
 use std::io;
 use std::io::ErrorKind;
-use std::path::{Path, PathBuf};
+use std::path::PathBuf;
 
 /// A chain of more symbolic links than this isn't followed, as in the system's own calls.
 const LINKS: u32 = 40;
 
-/// The folder below which the system tells of processes. Nothing in it can be replaced.
-const PROCESSES: &str = "/proc/";
-
-/// The folder of the devices. What stands in it itself isn't replaced, and nothing is created there: a shared
-/// memory's folder below it is one as any other.
-const DEVICES: &str = "/dev";
-
 /// Where a chain of symbolic links leads to.
 #[derive(Drop)]
 pub enum Place {
-    /// To this name, which is no link. What it names may be absent.
-    Name(PathBuf),
+    /// To a name that is none of a link.
+    Name(Spot),
     /// To an open descriptor, to something else that the system tells of a process, or to a name among the devices.
     System,
 }
 
-/// Where the name leads to: of a name that is no link, to itself.
+/// A name in a folder, which is none of a link.
+#[derive(Drop)]
+pub struct Spot {
+    pub folder: Folder,
+    pub path: String,
+    /// What has the name, open for writing.
+    pub old: Option<File>,
+}
+
+/// What a look at a name in a folder finds.
+#[derive(Drop)]
+enum Look {
+    Link(PathBuf),
+    Old(File),
+    Nothing,
+    /// The name was given to another file between two calls.
+    Exchanged,
+}
+
+/// Where the name leads to: of a name that is no link, to itself. Each folder on the way is held while its name is
+/// looked up, and what has the last name is opened where it was looked at.
 pub fn place_of<R: Files<File = File>>(
     alloc: Global,
     rt: &R,
     name: &str,
 ) -> Result<Place, OutputError> {
     let mut path = PathBuf::from_str(alloc, name)?;
+    let mut before: Option<Folder> = None;
     // The last look finds that the chain ends.
     for _ in 0..=LINKS {
-        if is_of_system(alloc, rt, &path)? {
+        let folder = folder_of(alloc, rt, path.as_str())?;
+        if folder.is_of_system(alloc, rt)? {
             return Ok(Place::System);
         }
-        match rt.read_link(alloc, path.as_str()) {
-            Ok(next) => {
-                path.pop();
-                path.push(next.as_str())?;
+        let entry = folder.path_of(alloc, last_of(path.as_str()))?;
+        match look_at(alloc, rt, &folder, entry.as_str())? {
+            Look::Link(next) => {
+                path = followed(alloc, entry.as_str(), &next)?;
+                // A link that says where it leads from its folder is followed from there.
+                before = Some(folder);
             }
-            Err(error) if is_no_link(error) => return Ok(Place::Name(path)),
-            Err(error) => return Err(or_no_memory(error)),
+            Look::Exchanged => {}
+            Look::Old(old) => return Ok(found(folder, entry, Some(old))),
+            Look::Nothing => return Ok(found(folder, entry, None)),
         }
     }
+    drop(before);
     Err(OutputError::Io(io::Error::from(ErrorKind::FilesystemLoop)))
 }
 
-/// Whether the system says that a name is none of a link: what it names is something else, or absent.
-fn is_no_link(error: io::Error) -> bool {
-    error.kind() == ErrorKind::InvalidInput || error.kind() == ErrorKind::NotFound
+fn found(folder: Folder, path: String, old: Option<File>) -> Place {
+    Place::Name(Spot { folder, path, old })
 }
 
-/// Whether the folder of this name lies below that of the processes, or is that of the devices.
-fn is_of_system<R: Files<File = File>>(
+/// Looks at a name in a folder, and opens what has it, where that is no link.
+fn look_at<R: Files<File = File>>(
     alloc: Global,
     rt: &R,
-    path: &PathBuf,
-) -> Result<bool, OutputError> {
-    match rt.canonicalize(alloc, folder_of(path.as_str())) {
-        Ok(folder) => Ok(is_folder_of_system(folder.as_str())),
-        Err(error) if error.kind() == ErrorKind::OutOfMemory => Err(OutputError::NoMemory),
-        // What can't be found is no folder of the system's.
-        Err(_) => Ok(false),
+    folder: &Folder,
+    entry: &str,
+) -> Result<Look, OutputError> {
+    let found = match rt.symlink_metadata(entry) {
+        Ok(found) => found,
+        Err(error) if error.kind() == ErrorKind::NotFound => return Ok(Look::Nothing),
+        Err(error) => return Err(or_no_memory(error)),
+    };
+    if folder.holds_planted(alloc, rt, Seen::of(&found))? {
+        let reason = "another user put this into a folder that all may write to";
+        return Err(OutputError::Io(io::Error::new(ErrorKind::PermissionDenied, reason)));
+    }
+    if found.is_symlink() {
+        return match rt.read_link(alloc, entry) {
+            Ok(next) => Ok(Look::Link(next)),
+            Err(error) => Err(or_no_memory(error)),
+        };
+    }
+    open_same(rt, entry, Identity::of(&found))
+}
+
+/// Opens what has the name, where that is this file still. The library can't open without following, so what was
+/// opened is looked at.
+fn open_same<R: Files<File = File>>(
+    rt: &R,
+    entry: &str,
+    wanted: Identity,
+) -> Result<Look, OutputError> {
+    match at_beginning(rt, entry) {
+        Ok(old) if Identity::of(&old.metadata()?) == wanted => Ok(Look::Old(old)),
+        Ok(_) => Ok(Look::Exchanged),
+        Err(error) if error.kind() == ErrorKind::NotFound => Ok(Look::Exchanged),
+        // A file that may not be written isn't replaced either.
+        Err(error) => Err(or_no_memory(error)),
     }
 }
 
-fn is_folder_of_system(folder: &str) -> bool {
-    folder.starts_with(PROCESSES) || folder == DEVICES
+/// Where a link leads to, which stands under this path and has this text.
+fn followed(alloc: Global, entry: &str, text: &PathBuf) -> Result<PathBuf, AllocError> {
+    let mut path = PathBuf::from_str(alloc, entry)?;
+    path.pop();
+    path.push(text.as_str())?;
+    Ok(path)
 }
 
 /// The folder in which a name stands.
-pub fn folder_of(name: &str) -> &str {
-    let folder = match Path::new(name).parent() {
-        Some(folder) => folder.as_str(),
-        None => name,
-    };
-    if folder.is_empty() { "." } else { folder }
+fn folder_of<R: Files<File = File>>(
+    alloc: Global,
+    rt: &R,
+    name: &str,
+) -> Result<Folder, OutputError> {
+    match name.rsplit_once('/') {
+        None => Folder::open(alloc, rt, "./"),
+        Some((folder, _)) => {
+            let folder = format!(in alloc; "{folder}/")?;
+            Folder::open(alloc, rt, folder.as_str())
+        }
+    }
 }
 
-fn or_no_memory(error: io::Error) -> OutputError {
-    if error.kind() == ErrorKind::OutOfMemory {
-        OutputError::NoMemory
-    } else {
-        OutputError::Io(error)
+/// What stands behind the last slash of a name.
+fn last_of(name: &str) -> &str {
+    match name.rsplit_once('/') {
+        None => name,
+        Some((_, last)) => last,
     }
 }

@@ -1,7 +1,7 @@
 //! The files to which the standard streams go.
+use crate::seen::Identity;
 use std::fs::{File, Files};
 use std::io;
-use std::os::unix::fs::MetadataExt;
 
 /// A standard stream to which something is printed.
 #[derive(Clone, Copy)]
@@ -25,7 +25,7 @@ impl Stream {
     pub fn goes_to<R: Files<File = File>>(self, rt: &R, file: &File) -> io::Result<bool> {
         let here = file.metadata()?;
         match rt.metadata(self.name()) {
-            Ok(there) => Ok(there.dev() == here.dev() && there.ino() == here.ino()),
+            Ok(there) => Ok(Identity::of(&there) == Identity::of(&here)),
             Err(_) => Ok(false),
         }
     }

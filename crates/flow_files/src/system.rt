@@ -1,23 +1,18 @@
-//! Files of the system: how one is opened, and how one is written so that no fault loses what it held.
+//! Files of the system: how one is begun and written so that no fault loses what it held.
 ghost use Rattle.std.specs.Prelude.{◌≤◌, length};
 ghost use Rattle.std.specs.Io.{WritesAtMost};
 
-use crate::access::keep_access;
+use crate::folder::{PRIVATE, Temporary};
 use crate::known::Known;
-use crate::place::{Place, folder_of, place_of};
+use crate::opened::{above_streams, at_beginning, at_end};
+use crate::place::{Place, Spot, place_of};
+use crate::replacing::{Replacing, take_place};
+use crate::seen::Identity;
 use crate::streams::Stream;
 use std::alloc::{AllocError, Global};
-use std::fs::{File, Files, Metadata, OpenOptions};
+use std::fs::{File, Files, Metadata};
 use std::io;
-use std::io::{ErrorKind, Seek, SeekFrom, Write};
-use std::os::unix::fs::OpenOptionsExt;
-use std::path::PathBuf;
-
-/// So many temporary names are tried, which earlier calls that were killed may have left.
-const TEMPORARY_NAMES: u32 = 65_536;
-
-/// The mode of a file that is to replace another one, until it is whole: its owner's alone.
-const PRIVATE: u32 = 0o600;
+use std::io::{ErrorKind, Write};
 
 /// The mode of a file that replaces none, less what the umask takes.
 const SHARED: u32 = 0o666;
@@ -27,15 +22,6 @@ const SHARED: u32 = 0o666;
 pub struct Output {
     file: File,
     replacing: Option<Replacing>,
-}
-
-/// The file that is written has a temporary name until it is whole.
-#[derive(Drop)]
-struct Replacing {
-    temporary: String,
-    target: PathBuf,
-    /// What has the name so far, open for writing.
-    old: Option<File>,
 }
 
 /// Why a file isn't begun.
@@ -57,18 +43,6 @@ impl From<io::Error> for OutputError {
     }
 }
 
-/// A duplicate of an open file, whose descriptor is above those of the standard streams. Where one of those was
-/// closed, the system gives its descriptor to the next file that is opened, and what is meant for the stream would
-/// land there.
-fn above_streams(file: File) -> io::Result<File> {
-    file.try_clone()
-}
-
-/// A file that is to be read.
-pub fn open_input<R: Files<File = File>>(rt: &R, name: &str) -> io::Result<File> {
-    above_streams(File::open(rt, name)?)
-}
-
 /// Begins a file. A regular or absent one is written under a temporary name until it is whole. A device, a pipe
 /// and the like is written in place, and so is what a descriptor's name leads to. What may not be written over, with
 /// these files known, is a fault.
@@ -79,40 +53,75 @@ pub fn begin<R: Files<File = File> + Eprint>(
     name: &str,
 ) -> Result<Output, OutputError> {
     known.admit_kept(rt)?;
-    match OpenOptions::new().write(true).open(rt, name) {
-        // A file that may not be written isn't replaced either.
-        Ok(old) => {
-            let old = above_streams(old)?;
-            known.admit(rt, name, &old)?;
-            begin_over(alloc, rt, name, old)
-        }
-        Err(error) if error.kind() == ErrorKind::NotFound => match place_of(alloc, rt, name)? {
-            Place::Name(target) => beside(alloc, rt, target, None),
-            Place::System => Err(OutputError::Io(error)),
+    match place_of(alloc, rt, name)? {
+        Place::System => begin_of_system(rt, known, name),
+        Place::Name(mut spot) => match spot.old.take() {
+            Some(old) => {
+                known.admit(rt, name, &old)?;
+                begin_over(alloc, rt, spot, old)
+            }
+            None => beside(alloc, rt, spot, SHARED),
         },
-        Err(error) => Err(OutputError::Io(error)),
     }
 }
 
-/// Begins a file whose name holds this one so far.
+/// Begins what the system tells of under this name.
+fn begin_of_system<R: Files<File = File> + Eprint>(
+    rt: &R,
+    known: &Known,
+    name: &str,
+) -> Result<Output, OutputError> {
+    let old = at_beginning(rt, name)?;
+    known.admit(rt, name, &old)?;
+    if !old.metadata()?.is_file() {
+        return Ok(in_place(old));
+    }
+    refuse_report(rt, &old)?;
+    Ok(in_place(at_end(rt, name)?))
+}
+
+/// Begins a file whose place holds this one so far.
 fn begin_over<R: Files<File = File>>(
     alloc: Global,
     rt: &R,
-    name: &str,
+    mut spot: Spot,
     old: File,
 ) -> Result<Output, OutputError> {
     if !old.metadata()?.is_file() {
         return Ok(in_place(old));
     }
-    if Stream::Output.goes_to(rt, &old)? {
+    refuse_report(rt, &old)?;
+    if Stream::Error.goes_to(rt, &old)? {
+        let file = at_end(rt, spot.path.as_str())?;
+        admit_same(&file, &old)?;
+        return Ok(in_place(file));
+    }
+    spot.old = Some(old);
+    beside(alloc, rt, spot, PRIVATE)
+}
+
+/// What is printed at the end may not land in a file that is an output.
+fn refuse_report<R: Files<File = File>>(rt: &R, old: &File) -> io::Result<()> {
+    if Stream::Output.goes_to(rt, old)? {
         let reason = "the standard output goes to this file";
-        return Err(OutputError::Io(io::Error::new(ErrorKind::InvalidInput, reason)));
+        return Err(io::Error::new(ErrorKind::InvalidInput, reason));
     }
-    let is_shared = Stream::Error.goes_to(rt, &old)?;
-    match place_of(alloc, rt, name)? {
-        Place::Name(target) if !is_shared => beside(alloc, rt, target, Some(old)),
-        _ => Ok(in_place(at_end(rt, name)?)),
+    Ok(())
+}
+
+/// Whether two files that are open are one.
+fn admit_same(file: &File, old: &File) -> io::Result<()> {
+    if Identity::of(&file.metadata()?) == Identity::of(&old.metadata()?) {
+        Ok(())
+    } else {
+        Err(exchanged())
     }
+}
+
+/// The fault of a name that was given to another file while its own was written.
+pub fn exchanged() -> io::Error {
+    let reason = "its name was given to another file meanwhile";
+    io::Error::new(ErrorKind::AlreadyExists, reason)
 }
 
 fn in_place(file: File) -> Output {
@@ -122,64 +131,19 @@ fn in_place(file: File) -> Output {
     }
 }
 
-/// What the name holds, to be written behind its end: who has it open too loses nothing.
-fn at_end<R: Files<File = File>>(rt: &R, name: &str) -> io::Result<File> {
-    above_streams(OpenOptions::new().append(true).open(rt, name)?)
-}
-
-/// Begins a file under a temporary name in the folder of its target.
+/// Begins a file of this mode under a temporary name in the folder of its place.
 fn beside<R: Files<File = File>>(
     alloc: Global,
     rt: &R,
-    target: PathBuf,
-    old: Option<File>,
-) -> Result<Output, OutputError> {
-    let mode = if old.is_some() { PRIVATE } else { SHARED };
-    let Temporary { name, first } = create_temporary(alloc, rt, target.as_str(), mode)?;
-    let replacing = Replacing {
-        temporary: name,
-        target,
-        old,
-    };
-    moved(rt, first, replacing)
-}
-
-/// A file that was created under a temporary name.
-#[derive(Drop)]
-struct Temporary {
-    name: String,
-    first: File,
-}
-
-/// Creates a file of this mode under the first temporary name that is left in the folder of its target.
-fn create_temporary<R: Files<File = File>>(
-    alloc: Global,
-    rt: &R,
-    target: &str,
+    spot: Spot,
     mode: u32,
-) -> Result<Temporary, OutputError> {
-    for number in 0..TEMPORARY_NAMES {
-        let name = temporary_name(alloc, target, number)?;
-        match create_new(rt, name.as_str(), mode) {
-            Ok(first) => return Ok(Temporary { name, first }),
-            Err(error) if error.kind() == ErrorKind::AlreadyExists => {}
-            Err(error) => return Err(OutputError::Io(error)),
-        }
-    }
-    Err(OutputError::Io(io::Error::new(
-        ErrorKind::AlreadyExists,
-        "no temporary name is left in the folder",
-    )))
-}
-
-/// Creates a file of this mode, and follows no link for it.
-fn create_new<R: Files<File = File>>(rt: &R, name: &str, mode: u32) -> io::Result<File> {
-    OpenOptions::new()
-        .read(true)
-        .write(true)
-        .create_new(true)
-        .mode(mode)
-        .open(rt, name)
+) -> Result<Output, OutputError> {
+    let Temporary { path, file } = spot.folder.create_temporary(alloc, rt, mode)?;
+    let replacing = Replacing {
+        temporary: path,
+        spot,
+    };
+    moved(rt, file, replacing)
 }
 
 /// The file that was created, above the standard streams. Where that fails, it is removed.
@@ -200,95 +164,13 @@ fn moved<R: Files<File = File>>(
     }
 }
 
-/// A name in the folder of this file.
-fn temporary_name(alloc: Global, target: &str, number: u32) -> Result<String, AllocError> {
-    let folder = folder_of(target);
-    format!(in alloc; "{folder}/.flow-{number}.tmp")
-}
-
-/// Opens the folder of a file, where it may be read.
-fn open_folder<R: Files<File = File>>(rt: &R, file: &PathBuf) -> io::Result<Option<File>> {
-    match File::open(rt, folder_of(file.as_str())) {
-        Ok(folder) => Ok(Some(folder)),
-        Err(error) if error.kind() == ErrorKind::PermissionDenied => Ok(None),
-        Err(error) => Err(error),
-    }
-}
-
-/// Has the names of a folder kept, where its file system can promise that.
-fn sync_folder(folder: Option<File>) -> io::Result<()> {
-    match folder {
-        None => Ok(()),
-        Some(folder) => match folder.sync_all() {
-            Err(error) if error.kind() == ErrorKind::InvalidInput => Ok(()),
-            synced => synced,
-        },
-    }
-}
-
-/// Gives a whole file its name, and what it replaces is gone. Answers the folder, which is still to be kept.
-fn give_name<R: Files<File = File>>(
-    rt: &R,
-    file: &File,
-    replacing: &Replacing,
-) -> io::Result<Option<File>> {
-    settle(file, replacing)?;
-    let folder = open_folder(rt, &replacing.target)?;
-    take_name(rt, file, replacing)?;
-    Ok(folder)
-}
-
-/// Gives a whole file the access of what it replaces, and has it kept.
-fn settle(file: &File, replacing: &Replacing) -> io::Result<()> {
-    if let Some(old) = &replacing.old {
-        keep_access(file, old)?;
-    }
-    file.sync_all()
-}
-
-/// Puts a file in the place of what it replaces.
-fn take_name<R: Files<File = File>>(rt: &R, file: &File, replacing: &Replacing) -> io::Result<()> {
-    let renamed = rt.rename(replacing.temporary.as_str(), replacing.target.as_str());
-    match &replacing.old {
-        Some(old) if is_busy(renamed) => {
-            pour(file, old)?;
-            rt.remove_file(replacing.temporary.as_str())
-        }
-        _ => renamed,
-    }
-}
-
-/// Whether the system says that a name can't be given to another file.
-fn is_busy(renamed: io::Result<()>) -> bool {
-    match renamed {
-        Err(error) => error.kind() == ErrorKind::ResourceBusy,
-        Ok(()) => false,
-    }
-}
-
-/// Has a whole file take its name for good. At a fault it is removed.
-fn take_place<R: Files<File = File>>(rt: &R, file: File, replacing: Replacing) -> io::Result<()> {
-    match give_name(rt, &file, &replacing) {
-        Ok(folder) => sync_folder(folder),
-        Err(error) => {
-            let _ = rt.remove_file(replacing.temporary.as_str());
-            Err(error)
-        }
-    }
-}
-
-/// Makes the second file hold what the first one holds: a file that is mounted keeps its name for good.
-fn pour(mut whole: &File, mut old: &File) -> io::Result<()> {
-    whole.seek(SeekFrom::Start(0))?;
-    old.set_len(0)?;
-    io::copy(&mut whole, &mut old)?;
-    old.sync_all()
-}
-
 impl Output {
-    /// What the system tells of the file that takes the writes.
+    /// What the system tells of the file that will hold what is written.
     pub fn metadata(&self) -> io::Result<Metadata> {
-        self.file.metadata()
+        match &self.replacing {
+            Some(replacing) => replacing.metadata(&self.file),
+            None => self.file.metadata(),
+        }
     }
 
     /// One write.
@@ -298,9 +180,8 @@ impl Output {
         self.file.write(bytes)
     }
 
-    /// Closes the file. One with a temporary name is given the access of what it replaces, is flushed to the disk, and
-    /// takes its own name; at a fault it is removed instead. What stood under its own name is whole at all times, but
-    /// where that is mounted.
+    /// Closes the file. One with a temporary name is flushed to the disk and takes its own name, with the access of
+    /// what it replaces; or what has that name takes its content. At a fault it is removed instead.
     pub fn finish<R: Files<File = File>>(self, rt: &R) -> io::Result<()> {
         let Output { file, replacing } = self;
         match replacing {

@@ -1,4 +1,5 @@
 -- A flat text comes to a plan or to a fault.
+use Rattle.flow_limits.specs.declared.TheConstants.{PATTERN_LIMIT}
 use Rattle.std.proofs.Common.{◌≡◌, ◌≢◌, ℕ, ◌<◌, ◌≤◌, Bool, true, false, List, [], ◌∷◌, length, take, zero, suc, Option, Some, None, Ok, Err, refl, ap, sym, subst, ◌∙◌, ◌⊎◌, inl, inr, slice_get, arith}
 use Rattle.std.specs.Prelude.{◌==◌, nat_le, slice_index_or, IsSomeAnd}
 use Rattle.std.specs.List.{All, slice_split}
@@ -105,7 +106,7 @@ dec_class Stream text = inl tt
 dec_class (Number least most) text = dec_number least most text
 dec_class Fields text = dec_and (dec_le (length (slice_split (λ b. b == 32) text)) 8) (dec_all (IsNumberWithin 1 255) (dec_number 1 255) (slice_split (λ b. b == 32) text))
 dec_class File text = dec_and4 (dec_le 1 (length text)) (dec_le (length text) 255) (dec_utf8 text) (dec_all (λ b. b ≢ 0) (λ b. dec_not (same_or_not b 0)) text)
-dec_class Pattern text = dec_and (dec_utf8 text) (dec_some_and (reading text) (λ found. found.0.depth ≤ pattern_options.nest_limit) (λ found. dec_le found.0.depth pattern_options.nest_limit))
+dec_class Pattern text = dec_and3 (dec_le (length text) PATTERN_LIMIT) (dec_utf8 text) (dec_some_and (reading text) (λ found. found.0.depth ≤ pattern_options.nest_limit) (λ found. dec_le found.0.depth pattern_options.nest_limit))
 dec_class Text text = inl tt
 
 dec_fits : (o : Option PortAt) (text : List ℕ) → Dec (FitsAt o text)

@@ -1,5 +1,5 @@
 //! The limits of this project, which are its own. Code, contracts and definitions of every other crate cite them from
-//! here, so that each number stands once. No contract can refuse another number: `flow_networks` compares each with
+//! here, so that each number stands once. No contract can refuse another number: `flow_call_trials` compares each with
 //! what the documents tell.
 #![tactic(auto)]
 
@@ -35,6 +35,9 @@ pub const SENDER_LIMIT: usize = 65_535;
 
 /// The longest initial text, option or text of a packet, in bytes.
 pub const TEXT_LIMIT: usize = 1_048_576;
+
+/// The longest pattern, in bytes: to read one takes some four thousand times as much memory as its text.
+pub const PATTERN_LIMIT: usize = 65_536;
 
 /// The greatest height of a packet, which is 1 where it has no chains.
 pub const HEIGHT_LIMIT: u32 = 16;

@@ -1,6 +1,7 @@
 //! The component that replaces the matches of a pattern.
 
-ghost use Rattle.std.specs.Prelude.{◌≡◌, ◌<◌, IfOk};
+ghost use Rattle.flow_limits.specs.declared.TheConstants.{TEXT_LIMIT};
+ghost use Rattle.std.specs.Prelude.{◌≡◌, ◌<◌, ◌≤◌, length, IfOk};
 ghost use Rattle.flow_packet.specs.Held.{held_of};
 ghost use Rattle.flow_component.specs.Alone.{HoldsOnly};
 ghost use Rattle.flow_component.specs.Resumes.{Resumes};
@@ -9,7 +10,7 @@ ghost use Rattle.flow_pattern.specs.Pattern.{IsPattern, Replacement};
 use flow_component::{Answer, Component, Fail, Port, Shape, Stop, Wish};
 use flow_limits::TEXT_LIMIT;
 use flow_packet::{Hands, Kind, PacketId};
-use flow_pattern::Replacer;
+use flow_pattern::{Replacer, Rewritten};
 use std::alloc::{AllocError, Global};
 use std::marker::Model;
 
@@ -53,11 +54,9 @@ impl Replace {
     fn renew(&mut self, hands: &mut Hands, packet: PacketId, text: Vec<u8>) -> Result<Wish, Stop>
         requires alone { HoldsOnly (held_of hands.old) packet }
         requires room { hands.old.made < 4294967295 }
+        requires short { length text.items ≤ TEXT_LIMIT }
         ensures { Resumes (λ state held _ outcome. outcome ≡ renews state held packet text.items) self.old hands.old Answer.Sent result self.new hands.new }
     {
-        if text.len() > TEXT_LIMIT {
-            return Err(Stop::Fail(Fail::TextLimit(text.len() as u64)));
-        }
         hands.drop_packet(packet);
         let made = hands.make_normal(text);
         Ok(Wish::Send(OUT, made))
@@ -69,9 +68,13 @@ impl Replace {
         requires room { hands.old.made < 4294967295 }
         ensures { Resumes (λ state held _ outcome. outcome ≡ comes state held packet Kind.Normal) self.old hands.old Answer.Sent result self.new hands.new }
     {
-        match self.replacer.replaced(self.alloc, hands.text(packet)) {
-            Ok(Some(text)) => self.renew(hands, packet, text),
-            Ok(None) => Ok(Wish::Send(OUT, packet)),
+        match self
+            .replacer
+            .replaced(self.alloc, hands.text(packet), TEXT_LIMIT)
+        {
+            Ok(Rewritten::New(text)) => self.renew(hands, packet, text),
+            Ok(Rewritten::TooLong(length)) => Err(Stop::Fail(Fail::TextLimit(length))),
+            Ok(Rewritten::Same) => Ok(Wish::Send(OUT, packet)),
             Err(_) => Err(Stop::NoMemory),
         }
     }

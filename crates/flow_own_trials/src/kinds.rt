@@ -1,11 +1,11 @@
 //! What the trials hand in: one kind, with the ports of Number, and parts of any type for it.
 ghost use Rattle.std.specs.Prelude.{◌≡◌, IfOk};
 ghost use Rattle.flow_offer.specs.Kinds.{AreOwnKinds};
-ghost use Rattle.flow_cli.specs.Offers.{offers_of, specs_of};
+ghost use Rattle.flow_load.specs.Offers.{offers_of, specs_of};
 
 use flow_cli::OwnKind;
 use flow_component::Wish;
-use flow_number::{Number, number_is_an_own_kind, number_kind};
+use flow_number::{number_is_an_own_kind, number_kind};
 use flow_own::{Part, PartStop};
 use std::alloc::{AllocError, Global};
 
@@ -25,15 +25,4 @@ pub fn again(said: &Result<Wish, PartStop>) -> Result<Wish, PartStop>
     ensures { result ≡ said.now }
 {
     *said
-}
-
-/// The kind with so many parts that number packets.
-pub fn numbers(alloc: Global, count: usize) -> Result<Vec<OwnKind<Number>>, AllocError>
-    ensures { IfOk result (λ own. AreOwnKinds (specs_of (offers_of own.items))) }
-{
-    let mut parts = Vec::new(alloc);
-    for _ in 0..count {
-        parts.push(Number::new(alloc))?;
-    }
-    kind_of(alloc, parts)
 }

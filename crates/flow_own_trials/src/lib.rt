@@ -1,10 +1,8 @@
-//! Worked networks with components of the caller's own, run through the top calls over files in memory. Nothing uses it:
-//! its tests show exact texts and files, that a part is dropped when its process ends, and what is refused. Each test is
-//! proved like any function: it is safe, and it ends.
+//! Trials of components of the caller's own: that a part is dropped when its process ends, what a part can't do, their
+//! kinds in a network, players, and tape files byte by byte. Nothing uses it. Each test is proved like any function: it
+//! is safe, and it ends. Runs of the kind Number, and replays by their tapes, are told by rows (`flow_rows`).
 #![tactic(auto)]
 
-#[cfg(test)]
-mod calls;
 #[cfg(test)]
 mod drops;
 #[cfg(test)]
@@ -15,10 +13,6 @@ mod marked;
 mod offers;
 #[cfg(test)]
 mod played;
-#[cfg(test)]
-mod replays;
-#[cfg(test)]
-mod runs;
 #[cfg(test)]
 mod stray;
 #[cfg(test)]

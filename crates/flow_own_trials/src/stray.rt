@@ -1,11 +1,13 @@
 //! A part that wishes to send a packet which it hasn't.
 ghost use Rattle.std.specs.Prelude.{◌≡◌, None};
 
-use crate::kinds::again;
+use crate::kinds::{again, kind_of};
 use flow_component::{Answer, Port, Wish};
 use flow_own::{Desk, Part, PartStop};
 use flow_packet::PacketId;
+use flow_rig::call_alone_with;
 use std::marker::Model;
+use std::test::Fail;
 
 /// Whatever it is told, it wishes to send the packet with the number 5.
 #[derive(Drop)]
@@ -42,4 +44,33 @@ impl Part for Stray {
         self.last = Some(again(&said));
         said
     }
+}
+
+/// A reader, a process that numbers lines, and a writer.
+const NUMBERING: &[u8] =
+    b"flow 1\n'in' -> FILE Read(ReadLines)\nRead OUT -> IN Num(Number)\nNum OUT -> IN Write(WriteLines)\n'out' -> FILE Write\n";
+
+/// What it reads.
+const LINES: &[u8] = b"a\nb\n";
+
+/// What a process can't do fails it, and its tape says so.
+const STRAYED: &[u8] = b"verdict failed\n";
+
+#[test]
+fn a_packet_that_isnt_there_is_no_packet(rt: HostRuntime) -> Result<(), Fail> {
+    let alloc = rt.alloc();
+    let files: &[(&str, &[u8])] = &[("net", NUMBERING), ("in", LINES)];
+    let mut parts = Vec::new(alloc);
+    parts.push(Stray::new())?;
+    let called = call_alone_with(alloc, &["net"], files, kind_of(alloc, parts)?)?;
+    assert!(rt; called.printed.starts_with(STRAYED));
+    let cause: &[u8] = b"\nfailed Num own packet 5\n";
+    assert!(rt;
+        called
+            .printed
+            .windows(cause.len())
+            .any(|window| window == cause)
+    );
+    assert_eq!(rt; called.status, 5);
+    Ok(())
 }

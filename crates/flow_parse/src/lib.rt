@@ -1,6 +1,6 @@
-//! Network files: which value a file spells, and which fault a file has that spells none. `flow_cli` reads each network
-//! file by it, and prints the canonical spelling. The contracts are those of `parse` and `print`, and a law says that a
-//! file has one value or one fault.
+//! Network files: which value a file spells, and which fault a file has that spells none. `flow_load` reads each
+//! network file by it, and `flow_cli` prints the canonical spelling. The contracts are those of `parse` and `print`,
+//! and a law says that a file has one value or one fault.
 #![tactic(auto)]
 
 mod fault;

@@ -1,3 +1,4 @@
 pub mod Locating
 pub mod Readings
 pub mod Replacing
+pub mod Writing

@@ -7,10 +7,12 @@ use Rattle.regex.specs.Search.{next_match, LiesWithin}
 use Rattle.regex.proofs.ForCallers.{span_alike}
 use Rattle.regex.proofs.SearchLemmas.{leftmost_past, leftmost_within, next_same, next_later}
 use Rattle.regex_dfa.specs.Search.{end_from}
+use Rattle.regex_dfa.specs.declared.dfa.Dfa.{Dfa}
+use Rattle.regex_vm.specs.Found.{first_match}
 use Rattle.regex_meta.specs.Programs.{pattern_of, leftmost}
 use Rattle.regex_meta.specs.Located.{EndsAt}
 use Rattle.regex_meta.specs.declared.program.Program.{Program}
-use Rattle.regex_meta.proofs.ProgramLemmas.{none_of_option_map, value_of_option_map, unanchored_end, leftmost_no_end}
+use Rattle.regex_meta.proofs.ProgramLemmas.{none_of_option_map, value_of_option_map, first_match-leftmost, unanchored_end, leftmost_no_end}
 use Rattle.flow_pattern.specs.Pattern.{expression}
 
 module _ (p : Program) (pattern text : List ℕ) (same : SameCaptures (pattern_of p) (expression pattern)) (bytes : (k : ℕ) → get_or text k 0 < 256) (start : ℕ) where
@@ -20,6 +22,12 @@ module _ (p : Program) (pattern text : List ℕ) (same : SameCaptures (pattern_o
   -- A search by the program finds the span that the pattern has.
   pub span_so : option_map span (leftmost p text start) ≡ option_map span (find (expression pattern) text start)
   span_so = span_alike same text bytes false start
+
+  -- By steps the same is found.
+  pub steps_so : (dfa : Dfa) → p.dfa ≡ dfa → option_map span (first_match dfa.nfa text (length text) start (length text)) ≡ option_map span (find (expression pattern) text start)
+  steps_so dfa its =
+      subst (λ (d : Dfa). option_map span (first_match d.nfa text (length text) start (length text)) ≡ option_map span (find (expression pattern) text start)) its
+      (ap (option_map span) (first_match-leftmost p text start) ∙ span_so)
 
   -- The automaton found no end.
   pub no_span_so : start ≤ length text → end_from p.dfa.nfa text (length text) p.dfa.nfa.unanchored start ≡ None →

@@ -1,4 +1,5 @@
 -- What the parser answers, as facts on patterns; and what the automaton answers, as facts on matches.
+use Rattle.flow_limits.specs.declared.TheConstants.{PATTERN_LIMIT}
 use Rattle.std.proofs.Common.{◌≡◌, ◌≢◌, ℕ, ◌<◌, ◌≤◌, inl, inr, true, false, List, length, All, Option, Some, None, IsSomeAnd, IfSome, is_some, IsSome, option_map, refl, sym, ap, ◌∙◌, subst, arith, get_or}
 use Rattle.std.specs.Str.{IsUtf8}
 use Rattle.std.proofs.lemmas.List.{get_or_default}
@@ -13,9 +14,11 @@ use Rattle.regex_syntax.specs.Grammar.{Names, group_count}
 use Rattle.regex_syntax.specs.declared.error.ErrorKind.{ErrorKind}
 use Rattle.regex_syntax.specs.declared.error.ErrorKind.TheVariants.{OutOfMemory}
 use Rattle.regex_dfa.specs.Search.{end_from}
+use Rattle.regex_dfa.specs.declared.dfa.Dfa.{Dfa}
+use Rattle.regex_vm.specs.Found.{first_match}
 use Rattle.regex_meta.specs.Programs.{pattern_of, leftmost}
 use Rattle.regex_meta.specs.declared.program.Program.{Program}
-use Rattle.regex_meta.proofs.ProgramLemmas.{unanchored_end, leftmost_no_end}
+use Rattle.regex_meta.proofs.ProgramLemmas.{first_match-leftmost, unanchored_end, leftmost_no_end}
 use Rattle.flow_pattern.specs.Pattern.{pattern_options, reading, IsPattern, expression_in, expression, matches}
 
 abbrev Found : Type 0
@@ -30,9 +33,9 @@ same_in None most a names p = absurd p
 same_in (Some found) most a names p = p.1
 
 -- A text that the parser reads is a pattern.
-pub is_pattern : (text : List ℕ) (hir : Hir) (names : Names) → IsUtf8 text → Reads pattern_options text hir names → IsPattern text
+pub is_pattern : (text : List ℕ) (hir : Hir) (names : Names) → length text ≤ PATTERN_LIMIT → IsUtf8 text → Reads pattern_options text hir names → IsPattern text
 unfolding Reads
-is_pattern text hir names utf8 reads = (utf8, shallow (reading text) pattern_options.nest_limit (meaning hir) names reads)
+is_pattern text hir names short utf8 reads = (short, utf8, shallow (reading text) pattern_options.nest_limit (meaning hir) names reads)
 
 -- What it reads matches as the pattern's expression does.
 pub alike : (text : List ℕ) (hir : Hir) (names : Names) → Reads pattern_options text hir names → SameCaptures (meaning hir) (expression text)
@@ -45,7 +48,7 @@ read_as (Some found) most p = same_refl _
 
 -- A pattern is read as its expression.
 pub IsPattern-read_as : (text : List ℕ) → IsPattern text → IsReadAs pattern_options text (expression text)
-IsPattern-read_as text p = read_as (reading text) pattern_options.nest_limit p.1
+IsPattern-read_as text p = read_as (reading text) pattern_options.nest_limit p.2
 
 deep : (o : Option Found) (most : ℕ) → IfSome o (λ (re, _). most < re.depth) → IsSomeAnd o (λ found. found.0.depth ≤ most) → ⊥
 deep None most d p = p
@@ -59,8 +62,8 @@ none-read (Some found) most e p = absurd cc
 pub no_pattern : (text : List ℕ) (kind : ErrorKind) → kind ≢ OutOfMemory → Refuses pattern_options text kind → IsPattern text → ⊥
 unfolding Refuses
 no_pattern text kind other (inl memory) pattern = other memory
-no_pattern text kind other (inr (inl none)) pattern = none-read (reading text) pattern_options.nest_limit none pattern.1
-no_pattern text kind other (inr (inr nested)) pattern = deep (reading text) pattern_options.nest_limit nested.1 pattern.1
+no_pattern text kind other (inr (inl none)) pattern = none-read (reading text) pattern_options.nest_limit none pattern.2
+no_pattern text kind other (inr (inr nested)) pattern = deep (reading text) pattern_options.nest_limit nested.1 pattern.2
 
 module _ (p : Program) (pattern text : List ℕ) (same : SameCaptures (pattern_of p) (expression pattern)) (bytes : (k : ℕ) → get_or text k 0 < 256) where
   small : All (λ b. b < 256) text
@@ -83,3 +86,7 @@ module _ (p : Program) (pattern text : List ℕ) (same : SameCaptures (pattern_o
   -- It found none.
   pub none_so : end_from p.dfa.nfa text (length text) p.dfa.nfa.unanchored 0 ≡ None → false ≡ matches pattern text
   none_so n = sym (ap is_some (leftmost_no_end p text small 0 (omega arith) n)) ∙ found_so
+
+  -- By steps one is found where the pattern has one.
+  pub steps_so : (dfa : Dfa) → p.dfa ≡ dfa → is_some (first_match dfa.nfa text (length text) 0 (length text)) ≡ matches pattern text
+  steps_so dfa its = subst (λ (d : Dfa). is_some (first_match d.nfa text (length text) 0 (length text)) ≡ matches pattern text) its (ap is_some (first_match-leftmost p text 0) ∙ found_so)

@@ -1,2 +1,4 @@
 pub mod Pattern
 pub mod Automata
+pub mod Steps
+pub mod Rewriting

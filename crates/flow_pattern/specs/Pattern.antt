@@ -1,6 +1,7 @@
 -- Patterns: which texts are patterns, what one reads as, whether it matches in a text, and a text with its matches replaced. (What a
 -- regular expression means is what the crate regex says of it.)
-use Rattle.std.specs.Prelude.{ℕ, ◌≤◌, Bool, false, List, Option, Some, None, IsSomeAnd, is_some, chars}
+use Rattle.flow_limits.specs.declared.TheConstants.{PATTERN_LIMIT}
+use Rattle.std.specs.Prelude.{ℕ, ◌≤◌, Bool, false, List, length, Option, Some, None, IsSomeAnd, is_some, chars}
 use Rattle.std.specs.Str.{IsUtf8}
 use Rattle.regex.specs.Patterns.{Re, empty, Config, default_config, find, find_all}
 use Rattle.regex.specs.Replace.{replaced_by}
@@ -15,9 +16,9 @@ pattern_options = record default_config { utf8 = false }
 abbrev pub reading : List ℕ → Option (Nested Re × Names)
 reading text = read pattern_options (chars text)
 
--- A text is a pattern where it is UTF-8 and the grammar reads it, nested no deeper than its limit.
+-- A text is a pattern where it is no longer than PATTERN_LIMIT, it is UTF-8, and the grammar reads it, nested no deeper than its limit.
 abbrev pub IsPattern : List ℕ → Type 0
-IsPattern text = IsUtf8 text × IsSomeAnd (reading text) (λ found. found.0.depth ≤ pattern_options.nest_limit)
+IsPattern text = (length text ≤ PATTERN_LIMIT) × IsUtf8 text × IsSomeAnd (reading text) (λ found. found.0.depth ≤ pattern_options.nest_limit)
 
 -- The expression that was read, where there is one.
 abbrev pub expression_in : Option (Nested Re × Names) → Re

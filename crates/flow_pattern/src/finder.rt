@@ -4,12 +4,14 @@ ghost use Rattle.std.specs.Prelude.{◌≡◌, IfOk};
 ghost use Rattle.regex.specs.Patterns.{SameCaptures};
 ghost use Rattle.regex_meta.specs.Programs.{pattern_of};
 ghost use Rattle.flow_pattern.specs.Automata.{Serves};
+ghost use Rattle.flow_pattern.specs.declared.finder.Uncompiled.TheVariants.{NoMemory};
 ghost use Rattle.flow_pattern.specs.Pattern.{IsPattern, expression, matches};
 
 use crate::reading::read;
+use crate::steps::Steps;
 use regex_compile::Error;
 use regex_dfa::{Dfa, End, Forward};
-use regex_meta::{Program, Searcher};
+use regex_meta::Program;
 use regex_syntax::Parsed;
 use std::alloc::{AllocError, Global};
 use std::marker::Model;
@@ -22,11 +24,12 @@ const SIZE_LIMIT: usize = 10 << 20;
 ///
 /// The crate's own `Matcher` is borrowed from its `Regex`, so that a component can't keep one, and to make one takes
 /// some thirty times as long as to search a line. So this keeps the automaton by which a `Matcher` finds the end of a
-/// match, and compiles the pattern anew where that gives up.
+/// match, and goes through a text by steps where that gives up.
 pub struct Finder {
     text: Vec<u8>,
     dfa: Dfa,
     forward: Forward,
+    steps: Steps,
 }
 
 impl Model for Finder {
@@ -34,12 +37,13 @@ impl Model for Finder {
     ghost use Rattle.std.specs.Prelude.{◌≡◌, false};
     ghost use Rattle.regex_dfa.specs.Search.{IsForwardFor, stops_when_idle};
     ghost use Rattle.flow_pattern.specs.Automata.{Serves};
+    ghost use Rattle.flow_pattern.specs.Steps.{HasRoomFor};
 
     ghost Value = { List ℕ };
 
     ghost view = { λ f. f.text.items };
 
-    ghost invariant = { λ f. IsForwardFor f.forward f.dfa × (stops_when_idle f.forward ≡ false) × Serves f.dfa f.text.items };
+    ghost invariant = { λ f. IsForwardFor f.forward f.dfa × (stops_when_idle f.forward ≡ false) × Serves f.dfa f.text.items × HasRoomFor f.dfa f.steps };
 }
 
 // Written out, so that a proof above sees one call here and not what all the fields let go.
@@ -49,12 +53,29 @@ impl Drop for Finder {
             text: _text,
             dfa: _dfa,
             forward: _forward,
+            steps: _steps,
         } = self;
     }
 }
 
+// Why a pattern isn't compiled.
+#[derive(Clone, Copy, PartialEq, Eq, Debug)]
+pub(crate) enum Uncompiled {
+    /// Its program would take more than it may.
+    TooLarge,
+    NoMemory,
+}
+
+impl From<AllocError> for Uncompiled {
+    ghost from_gives = { λ _ e. e ≡ NoMemory };
+
+    fn from(_: AllocError) -> Uncompiled {
+        Uncompiled::NoMemory
+    }
+}
+
 // Compiles a pattern.
-pub(crate) fn compiled(alloc: Global, source: &str) -> Result<Program, AllocError>
+pub(crate) fn compiled(alloc: Global, source: &str) -> Result<Program, Uncompiled>
     requires pattern { IsPattern source.now }
     ensures { IfOk result (λ p. SameCaptures (pattern_of p) (expression source.now)) }
 {
@@ -62,18 +83,18 @@ pub(crate) fn compiled(alloc: Global, source: &str) -> Result<Program, AllocErro
         unreachable!()
     };
     let Ok(groups) = u32::try_from(names.len()) else {
-        return Err(AllocError);
+        return Err(Uncompiled::TooLarge);
     };
     match Program::new(alloc, hir, groups, SIZE_LIMIT) {
         Ok(program) => Ok(program),
-        Err(Error::TooBig) => Err(AllocError),
-        Err(Error::OutOfMemory) => Err(AllocError),
+        Err(Error::TooBig) => Err(Uncompiled::TooLarge),
+        Err(Error::OutOfMemory) => Err(Uncompiled::NoMemory),
         Err(Error::Malformed) => unreachable!(),
     }
 }
 
 // The automaton of a pattern.
-pub(crate) fn automaton(alloc: Global, source: &str) -> Result<Dfa, AllocError>
+pub(crate) fn automaton(alloc: Global, source: &str) -> Result<Dfa, Uncompiled>
     requires pattern { IsPattern source.now }
     ensures { IfOk result (λ dfa. Serves dfa source.now) }
 {
@@ -82,15 +103,18 @@ pub(crate) fn automaton(alloc: Global, source: &str) -> Result<Dfa, AllocError>
     Ok(dfa)
 }
 
-// Compiles a pattern once more.
-pub(crate) fn anew(alloc: Global, pattern: &[u8]) -> Result<Program, AllocError>
+// The automaton of the pattern that these bytes are. One that takes more than it may finds no memory.
+pub(crate) fn automaton_of(alloc: Global, pattern: &[u8]) -> Result<Dfa, AllocError>
     requires pattern { IsPattern pattern.now }
-    ensures { IfOk result (λ p. SameCaptures (pattern_of p) (expression pattern.now)) }
+    ensures { IfOk result (λ dfa. Serves dfa pattern.now) }
 {
     let Ok(source) = str::from_utf8(pattern) else {
         unreachable!()
     };
-    compiled(alloc, source)
+    match automaton(alloc, source) {
+        Ok(dfa) => Ok(dfa),
+        Err(_) => Err(AllocError),
+    }
 }
 
 impl Finder {
@@ -99,17 +123,19 @@ impl Finder {
         requires pattern { IsPattern pattern.now }
         ensures { IfOk result (λ finder. finder ≡ pattern.now) }
     {
-        let Ok(source) = str::from_utf8(pattern) else {
-            unreachable!()
-        };
-        let dfa = automaton(alloc, source)?;
+        let dfa = automaton_of(alloc, pattern)?;
         let forward = Forward::new(alloc, &dfa, false)?;
         let text = Vec::from_slice(alloc, pattern)?;
-        Ok(Finder { text, dfa, forward })
+        Ok(Finder {
+            text,
+            dfa,
+            forward,
+            steps: Steps::new(),
+        })
     }
 
-    /// Whether the pattern matches somewhere in the text. Takes memory where the automaton gives up, which it does for
-    /// a few patterns with assertions on Unicode words and where its tables have filled too often.
+    /// Whether the pattern matches somewhere in the text. Takes memory where the automaton first gives up, which it does
+    /// for a few patterns with assertions on Unicode words and where its tables have filled too often.
     pub fn matches(&mut self, alloc: Global, text: &[u8]) -> Result<bool, AllocError>
         ensures same { self.new ≡ self.old }
         ensures found { IfOk result (λ found. found ≡ matches self.old text.now) }
@@ -121,17 +147,16 @@ impl Finder {
             End::At(_) => Ok(true),
             End::NoMatch => Ok(false),
             End::Idle(_) => unreachable!(),
-            End::GaveUp => self.matches_anew(alloc, text),
+            End::GaveUp => self.matches_by_steps(alloc, text),
         }
     }
 
-    // The same, by a search of its own.
+    // The same, by steps.
     #[cold]
-    fn matches_anew(&self, alloc: Global, text: &[u8]) -> Result<bool, AllocError>
-        ensures { IfOk result (λ found. found ≡ matches self.now text.now) }
+    fn matches_by_steps(&mut self, alloc: Global, text: &[u8]) -> Result<bool, AllocError>
+        ensures same { self.new ≡ self.old }
+        ensures found { IfOk result (λ found. found ≡ matches self.old text.now) }
     {
-        let program = anew(alloc, &self.text)?;
-        let mut searcher = Searcher::new(alloc, &program)?;
-        Ok(searcher.is_match(text, 0))
+        self.steps.is_match(alloc, &self.dfa, text, 0)
     }
 }

@@ -8,7 +8,8 @@ mod finder;
 mod locator;
 mod reading;
 mod replacer;
+mod steps;
 
 pub use finder::Finder;
-pub use reading::{Slip, is_pattern, slip_in};
-pub use replacer::Replacer;
+pub use reading::{Slip, is_pattern, is_too_large, slip_in};
+pub use replacer::{Replacer, Rewritten};

@@ -5,12 +5,11 @@ ghost use Rattle.regex.specs.Patterns.{find, span};
 ghost use Rattle.regex.specs.Search.{next_match, LiesWithin};
 ghost use Rattle.flow_pattern.specs.Pattern.{IsPattern, expression};
 
-use crate::finder::{anew, automaton};
+use crate::finder::automaton_of;
+use crate::steps::Steps;
 use regex_dfa::{Dfa, End, Forward, Reverse, Start};
-use regex_meta::Searcher;
 use std::alloc::{AllocError, Global};
 use std::marker::Model;
-use std::str;
 
 /// A pattern, compiled, with what its searches have built so far. It is seen as the pattern's text.
 ///
@@ -20,18 +19,20 @@ pub(crate) struct Locator {
     dfa: Dfa,
     forward: Forward,
     reverse: Reverse,
+    steps: Steps,
 }
 
 impl Model for Locator {
     ghost use Rattle.std.specs.Prelude.{◌≡◌, ℕ, List, false};
     ghost use Rattle.regex_dfa.specs.Search.{IsForwardFor, IsReverseFor, stops_when_idle};
     ghost use Rattle.flow_pattern.specs.Automata.{Serves};
+    ghost use Rattle.flow_pattern.specs.Steps.{HasRoomFor};
 
     ghost Value = { List ℕ };
 
     ghost view = { λ l. l.text.items };
 
-    ghost invariant = { λ l. IsForwardFor l.forward l.dfa × (stops_when_idle l.forward ≡ false) × IsReverseFor l.reverse l.dfa × Serves l.dfa l.text.items };
+    ghost invariant = { λ l. IsForwardFor l.forward l.dfa × (stops_when_idle l.forward ≡ false) × IsReverseFor l.reverse l.dfa × Serves l.dfa l.text.items × HasRoomFor l.dfa l.steps };
 }
 
 // Written out, so that a proof above sees one call here and not what all the fields let go.
@@ -42,6 +43,7 @@ impl Drop for Locator {
             dfa: _dfa,
             forward: _forward,
             reverse: _reverse,
+            steps: _steps,
         } = self;
     }
 }
@@ -52,10 +54,7 @@ impl Locator {
         requires pattern { IsPattern pattern.now }
         ensures { IfOk result (λ locator. locator ≡ pattern.now) }
     {
-        let Ok(source) = str::from_utf8(pattern) else {
-            unreachable!()
-        };
-        let dfa = automaton(alloc, source)?;
+        let dfa = automaton_of(alloc, pattern)?;
         let forward = Forward::new(alloc, &dfa, false)?;
         let reverse = Reverse::new(alloc, &dfa)?;
         let text = Vec::from_slice(alloc, pattern)?;
@@ -64,10 +63,11 @@ impl Locator {
             dfa,
             forward,
             reverse,
+            steps: Steps::new(),
         })
     }
 
-    /// The span of the leftmost match that starts at `start` or after it. Takes memory where an automaton gives up.
+    /// The span of the leftmost match that starts at `start` or after it. Takes memory where an automaton first gives up.
     pub(crate) fn find(
         &mut self,
         alloc: Global,
@@ -85,28 +85,27 @@ impl Locator {
             End::At(end) => end,
             End::NoMatch => return Ok(None),
             End::Idle(_) => unreachable!(),
-            End::GaveUp => return self.find_anew(alloc, text, start),
+            End::GaveUp => return self.find_by_steps(alloc, text, start),
         };
         match self.reverse.find_start(&self.dfa, text, start, end) {
             Start::At(from) => Ok(Some((from, end))),
-            _ => self.find_anew(alloc, text, start),
+            _ => self.find_by_steps(alloc, text, start),
         }
     }
 
-    // The same, by a search of its own.
+    // The same, by steps.
     #[cold]
-    fn find_anew(
-        &self,
+    fn find_by_steps(
+        &mut self,
         alloc: Global,
         text: &[u8],
         start: usize,
     ) -> Result<Option<(usize, usize)>, AllocError>
         requires within { start ≤ length text.now }
-        ensures { IfOk result (λ found. found ≡ option_map span (find (expression self.now) text.now start)) }
+        ensures same { self.new ≡ self.old }
+        ensures found { IfOk result (λ found. found ≡ option_map span (find (expression self.old) text.now start)) }
     {
-        let program = anew(alloc, &self.text)?;
-        let mut searcher = Searcher::new(alloc, &program)?;
-        Ok(searcher.find(text, start))
+        self.steps.find(alloc, &self.dfa, text, start)
     }
 
     /// The span of the match after the one that ended at `after - 1`, or of the first match where `after` is 0.

@@ -1,10 +1,13 @@
 //! How a pattern is read.
 
+ghost use Rattle.flow_limits.specs.declared.TheConstants.{PATTERN_LIMIT};
 ghost use Rattle.std.specs.Prelude.{◌≡◌, ◌↔◌, ◌<◌, ◌≤◌, length, vec_len, map, option_map, string_bytes, IfErr, IfOk, IfNone, IfSome, IsTrue};
 ghost use Rattle.regex.specs.Patterns.{Reads};
 ghost use Rattle.regex_syntax.specs.WellFormed.{IsWellFormed};
 ghost use Rattle.flow_pattern.specs.Pattern.{pattern_options, IsPattern};
 
+use crate::finder::{Uncompiled, automaton, automaton_of};
+use flow_limits::PATTERN_LIMIT;
 use regex_syntax::{Config, Error, ErrorKind, Parsed, parse};
 use std::alloc::{AllocError, Global};
 use std::str;
@@ -28,6 +31,7 @@ fn options() -> Config
 
 // Reads a pattern, or tells where the text isn't one.
 pub(crate) fn read(alloc: Global, source: &str) -> Result<Result<Parsed, Error>, AllocError>
+    requires short { length source.now ≤ PATTERN_LIMIT }
     ensures none { IfOk result (λ read. IfErr read (λ e. IsPattern source.now → ⊥)) }
     ensures place { IfOk result (λ read. IfErr read (λ e. e.span.start ≤ length source.now)) }
     ensures some { IfOk result (λ read. IfOk read (λ p. IsPattern source.now)) }
@@ -50,6 +54,12 @@ pub fn slip_in(alloc: Global, text: &[u8]) -> Result<Option<Slip>, AllocError>
     ensures some { IfOk result (λ slip. IfSome slip (λ s. IsPattern text.now → ⊥)) }
     ensures place { IfOk result (λ slip. IfSome slip (λ s. s.place ≤ length text.now)) }
 {
+    if text.len() > PATTERN_LIMIT {
+        return Ok(Some(Slip {
+            place: PATTERN_LIMIT,
+            why: "a pattern has at most 65,536 bytes",
+        }));
+    }
     let source = match str::from_utf8(text) {
         Ok(source) => source,
         Err(fault) => {
@@ -69,10 +79,35 @@ pub fn slip_in(alloc: Global, text: &[u8]) -> Result<Option<Slip>, AllocError>
     }
 }
 
-/// Whether a text is a pattern. Reading it takes memory.
+/// Whether a text is a pattern. Reading it takes memory; and it is compiled, so that one whose program would take more
+/// than some 10 MiB finds no memory here already.
 pub fn is_pattern(alloc: Global, text: &[u8]) -> Result<bool, AllocError>
     ensures { IfOk result (λ is. IsTrue is ↔ IsPattern text.now) }
 {
-    let slip = slip_in(alloc, text)?;
-    Ok(slip.is_none())
+    if slip_in(alloc, text)?.is_some() {
+        return Ok(false);
+    }
+    let _automaton = automaton_of(alloc, text)?;
+    Ok(true)
+}
+
+/// Whether a text is a pattern whose program would take more than it may. For whoever tells why memory was wanting.
+pub fn is_too_large(alloc: Global, text: &[u8]) -> Result<bool, AllocError> {
+    if slip_in(alloc, text)?.is_some() {
+        return Ok(false);
+    }
+    match str::from_utf8(text) {
+        Ok(source) => is_source_too_large(alloc, source),
+        Err(_) => Ok(false),
+    }
+}
+
+fn is_source_too_large(alloc: Global, source: &str) -> Result<bool, AllocError>
+    requires { IsPattern source.now }
+{
+    match automaton(alloc, source) {
+        Ok(_) => Ok(false),
+        Err(Uncompiled::TooLarge) => Ok(true),
+        Err(Uncompiled::NoMemory) => Err(AllocError),
+    }
 }

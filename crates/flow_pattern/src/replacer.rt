@@ -1,7 +1,8 @@
 //! A text with the matches of a pattern replaced.
 
-ghost use Rattle.std.specs.Prelude.{◌≡◌, true, false, IfOk, IfNone, IfSome};
-ghost use Rattle.flow_pattern.specs.Pattern.{IsPattern, matches, replaced};
+ghost use Rattle.std.specs.Prelude.{◌≡◌, ◌++◌, ℕ, List, [], IfOk, OnOk};
+ghost use Rattle.flow_pattern.specs.Pattern.{IsPattern};
+ghost use Rattle.flow_pattern.specs.Rewriting.{IsNewText, IsRewritten, Tells};
 
 use crate::locator::Locator;
 use std::alloc::{AllocError, Global};
@@ -31,31 +32,86 @@ impl Drop for Replacer {
     }
 }
 
-// The text with what the pattern matches replaced by `with`; none where nothing matches.
-fn rewritten(
+/// What comes of a text when the matches in it are replaced.
+#[derive(Debug, Drop)]
+pub enum Rewritten {
+    /// Nothing matches in it.
+    Same,
+    /// The new text.
+    New(Vec<u8>),
+    /// The new text would have so many bytes, more than it may.
+    TooLong(u64),
+}
+
+// A text that is being written. Its bytes are kept while they are no more than it may have, and counted always.
+#[derive(Drop)]
+pub(crate) struct NewText {
+    kept: Vec<u8>,
+    count: u64,
+    most: usize,
+}
+
+impl NewText {
+    fn new(alloc: Global, most: usize) -> NewText
+        ensures { IsNewText most [] result }
+    {
+        NewText {
+            kept: Vec::new(alloc),
+            count: 0,
+            most,
+        }
+    }
+
+    // Adds a piece. (A text of more than 2^64 bytes finds no memory.)
+    fn put(&mut self, piece: &[u8]) -> Result<(), AllocError>
+        ensures { OnOk result ((most : ℕ) (whole : List ℕ) → IsNewText most whole self.old → IsNewText most (whole ++ piece.now) self.new) }
+    {
+        let Some(count) = self.count.checked_add(piece.len() as u64) else {
+            return Err(AllocError);
+        };
+        self.count = count;
+        if count > self.most as u64 {
+            return Ok(());
+        }
+        self.kept.extend_from_slice(piece)?;
+        Ok(())
+    }
+
+    // The text, or its length where it is too long.
+    fn told(self) -> Rewritten
+        ensures { (most : ℕ) (whole : List ℕ) → IsNewText most whole self → Tells most whole result }
+    {
+        if self.count > self.most as u64 {
+            return Rewritten::TooLong(self.count);
+        }
+        Rewritten::New(self.kept)
+    }
+}
+
+// The text with what the pattern matches replaced by `with`.
+fn rewrite(
     locator: &mut Locator,
     alloc: Global,
     text: &[u8],
     with: &[u8],
-) -> Result<Option<Vec<u8>>, AllocError>
+    most: usize,
+) -> Result<Rewritten, AllocError>
     ensures same { locator.new ≡ locator.old }
-    ensures none { IfOk result (λ new. IfNone new (matches locator.old text.now ≡ false)) }
-    ensures some { IfOk result (λ new. IfSome new (λ v. matches locator.old text.now ≡ true)) }
-    ensures text { IfOk result (λ new. IfSome new (λ v. v.items ≡ replaced locator.old with.now text.now)) }
+    ensures rewritten { IfOk result (IsRewritten (record { pattern = locator.old; with = with.now }) text.now most) }
 {
-    let mut new = Vec::new(alloc);
+    let mut written = NewText::new(alloc, most);
     // One more than the end of the last match, or 0 before the first.
     let mut after: usize = 0;
-    while let Some((from, end)) = locator.next(alloc, text, after)? {
-        new.extend_from_slice(&text[after.saturating_sub(1)..from])?;
-        new.extend_from_slice(with)?;
+    'matches: while let Some((from, end)) = locator.next(alloc, text, after)? {
+        written.put(&text[after.saturating_sub(1)..from])?;
+        written.put(with)?;
         after = end + 1;
     }
     if after == 0 {
-        return Ok(None);
+        return Ok(Rewritten::Same);
     }
-    new.extend_from_slice(&text[after - 1..])?;
-    Ok(Some(new))
+    written.put(&text[after - 1..])?;
+    Ok(written.told())
 }
 
 impl Replacer {
@@ -70,13 +126,17 @@ impl Replacer {
         Ok(Replacer { locator, with })
     }
 
-    /// The text with its matches replaced; none where nothing matches.
-    pub fn replaced(&mut self, alloc: Global, text: &[u8]) -> Result<Option<Vec<u8>>, AllocError>
+    /// The text with its matches replaced, where it then has no more bytes than these. Of a longer one the bytes are
+    /// counted, and no more of them are held than it may have.
+    pub fn replaced(
+        &mut self,
+        alloc: Global,
+        text: &[u8],
+        most: usize,
+    ) -> Result<Rewritten, AllocError>
         ensures same { self.new ≡ self.old }
-        ensures none { IfOk result (λ new. IfNone new (matches self.old.pattern text.now ≡ false)) }
-        ensures some { IfOk result (λ new. IfSome new (λ v. matches self.old.pattern text.now ≡ true)) }
-        ensures text { IfOk result (λ new. IfSome new (λ v. v.items ≡ replaced self.old.pattern self.old.with text.now)) }
+        ensures rewritten { IfOk result (IsRewritten self.old text.now most) }
     {
-        rewritten(&mut self.locator, alloc, text, &self.with)
+        rewrite(&mut self.locator, alloc, text, &self.with, most)
     }
 }

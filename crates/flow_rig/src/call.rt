@@ -1,11 +1,9 @@
 //! Calls of the program over files in memory.
-ghost use Rattle.std.specs.Prelude.{◌≤◌};
 ghost use Rattle.flow_offer.specs.Kinds.{AreOwnKinds};
-ghost use Rattle.flow_cli.specs.Offers.{offers_of, specs_of};
+ghost use Rattle.flow_load.specs.Offers.{offers_of, specs_of};
 
 use flow_cli::{Outcome, OwnKind, busy_top, needs_workers, plain_top};
 use flow_component::Gate;
-use flow_items::Items;
 use flow_number::Number;
 use flow_own::{Part, Tape};
 use flow_text::{MemShelf, MemSink};
@@ -22,39 +20,12 @@ const PIECE: usize = 65_536;
 /// A file's name and its bytes.
 pub type File<'a> = (&'a str, &'a [u8]);
 
-/// Over what a call goes.
-#[derive(Clone, Copy)]
-pub struct Outside<'a> {
-    pub files: &'a [File<'a>],
-    /// How many bytes are moved at once.
-    pub piece: usize,
-    /// Which call for a read fails, which for a write to a file, and which for a write of what is printed; 0 where none does.
-    pub read_fail: u64,
-    pub write_fail: u64,
-    pub print_fail: u64,
-}
-
-/// These files, where nothing fails.
-fn faultless<'a>(files: &'a [File<'a>]) -> Outside<'a>
-    ensures { 1 ≤ result.piece }
-{
-    Outside {
-        files,
-        piece: PIECE,
-        read_fail: 0,
-        write_fail: 0,
-        print_fail: 0,
-    }
-}
-
 /// What a call came to.
 #[derive(Drop)]
 pub struct Called {
     pub status: u8,
     /// How many turns the journal has.
     pub turns: usize,
-    /// The levels that were told on the way.
-    pub seen: Items<u16>,
     /// The tapes of the caller's own components, in the order of their processes.
     pub tapes: Vec<Tape>,
     pub printed: Vec<u8>,
@@ -75,23 +46,17 @@ impl From<AllocError> for CallStop {
     }
 }
 
-fn shelf_of(alloc: Global, outside: Outside) -> Result<MemShelf, AllocError>
-    requires { 1 ≤ outside.piece }
-{
+fn shelf_of(alloc: Global, named: &[File]) -> Result<MemShelf, AllocError> {
     let mut files = Vec::new(alloc);
-    for (name, bytes) in outside.files {
+    for (name, bytes) in named {
         files.push((String::from_str(alloc, *name)?, bytes.to_vec(alloc)?))?;
     }
-    let read_fails = vec![in alloc; outside.read_fail]?;
-    let write_fails = vec![in alloc; outside.write_fail]?;
-    Ok(MemShelf::new(alloc, files, outside.piece, ROOM, read_fails, write_fails))
+    let (reads, writes) = (Vec::new(alloc), Vec::new(alloc));
+    Ok(MemShelf::new(alloc, files, PIECE, ROOM, reads, writes))
 }
 
-fn sink_of(alloc: Global, outside: Outside) -> Result<MemSink, AllocError>
-    requires { 1 ≤ outside.piece }
-{
-    let fails = vec![in alloc; outside.print_fail]?;
-    MemSink::new(alloc, outside.piece, ROOM, fails)
+fn sink_of(alloc: Global) -> Result<MemSink, AllocError> {
+    MemSink::new(alloc, PIECE, ROOM, Vec::new(alloc))
 }
 
 fn words_of(alloc: Global, line: &[&str]) -> Result<Vec<String>, AllocError> {
@@ -114,12 +79,9 @@ fn told(
         tapes,
         crew: _,
     } = outcome;
-    let turns = journal.turns.len();
-    let seen = journal.seen;
     Ok(Called {
         status: status.code(),
-        turns,
-        seen,
+        turns: journal.turns.len(),
         tapes,
         printed: out.bytes().to_vec(alloc)?,
         shelf,
@@ -133,27 +95,7 @@ fn no_kinds(alloc: Global) -> Vec<OwnKind<Number>>
     Vec::new(alloc)
 }
 
-/// A call with these words, which ask for no workers, and with these kinds of the caller's own.
-pub fn call_on_with<P: Part>(
-    alloc: Global,
-    line: &[&str],
-    outside: Outside,
-    own: Vec<OwnKind<P>>,
-) -> Result<Called, CallStop>
-    requires piece { 1 ≤ outside.piece }
-    requires own { AreOwnKinds (specs_of (offers_of own.items)) }
-{
-    let words = words_of(alloc, line)?;
-    if needs_workers(alloc, &words)? {
-        return Err(CallStop::OtherEngine);
-    }
-    let mut shelf = shelf_of(alloc, outside)?;
-    let mut out = sink_of(alloc, outside)?;
-    let outcome = plain_top(alloc, &words, &mut shelf, &mut out, own);
-    Ok(told(alloc, outcome, shelf, &out)?)
-}
-
-/// The same over these files, where nothing fails.
+/// A call with these words, which ask for no workers, over these files, where nothing fails, and with these kinds of the caller's own.
 pub fn call_alone_with<P: Part>(
     alloc: Global,
     line: &[&str],
@@ -162,39 +104,17 @@ pub fn call_alone_with<P: Part>(
 ) -> Result<Called, CallStop>
     requires { AreOwnKinds (specs_of (offers_of own.items)) }
 {
-    call_on_with(alloc, line, faultless(files), own)
-}
-
-/// A call with these words, which ask for workers, over these files, where nothing fails, and with these kinds of the caller's own.
-pub fn call_by_workers_with<R: Threads + Wait + Sync, G: Gate + Sync, P: Part + Send>(
-    rt: &R,
-    alloc: Global,
-    line: &[&str],
-    files: &[File],
-    gate: &G,
-    own: Vec<OwnKind<P>>,
-) -> Result<Called, CallStop>
-    requires { AreOwnKinds (specs_of (offers_of own.items)) }
-{
     let words = words_of(alloc, line)?;
-    if !needs_workers(alloc, &words)? {
+    if needs_workers(alloc, &words)? {
         return Err(CallStop::OtherEngine);
     }
-    let outside = faultless(files);
-    let mut shelf = shelf_of(alloc, outside)?;
-    let mut out = sink_of(alloc, outside)?;
-    let outcome = busy_top(rt, alloc, &words, &mut shelf, &mut out, gate, own);
+    let mut shelf = shelf_of(alloc, files)?;
+    let mut out = sink_of(alloc)?;
+    let outcome = plain_top(alloc, &words, &mut shelf, &mut out, own);
     Ok(told(alloc, outcome, shelf, &out)?)
 }
 
-/// A call with these words, which ask for no workers, and with the standard kinds alone.
-pub fn call_on(alloc: Global, line: &[&str], outside: Outside) -> Result<Called, CallStop>
-    requires { 1 ≤ outside.piece }
-{
-    call_on_with(alloc, line, outside, no_kinds(alloc))
-}
-
-/// The same over these files, where nothing fails.
+/// The same with the standard kinds alone.
 pub fn call_alone(alloc: Global, line: &[&str], files: &[File]) -> Result<Called, CallStop> {
     call_alone_with(alloc, line, files, no_kinds(alloc))
 }
@@ -207,5 +127,20 @@ pub fn call_by_workers<R: Threads + Wait + Sync, G: Gate + Sync>(
     files: &[File],
     gate: &G,
 ) -> Result<Called, CallStop> {
-    call_by_workers_with(rt, alloc, line, files, gate, no_kinds(alloc))
+    let words = words_of(alloc, line)?;
+    if !needs_workers(alloc, &words)? {
+        return Err(CallStop::OtherEngine);
+    }
+    let mut shelf = shelf_of(alloc, files)?;
+    let mut out = sink_of(alloc)?;
+    let outcome = busy_top(
+        rt,
+        alloc,
+        &words,
+        &mut shelf,
+        &mut out,
+        gate,
+        no_kinds(alloc),
+    );
+    Ok(told(alloc, outcome, shelf, &out)?)
 }

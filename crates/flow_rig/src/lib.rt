@@ -10,10 +10,7 @@ mod starting;
 mod turns;
 
 pub use asker::Asker;
-pub use call::{
-    CallStop, Called, File, Outside, call_alone, call_alone_with, call_by_workers,
-    call_by_workers_with, call_on, call_on_with,
-};
+pub use call::{CallStop, Called, File, call_alone, call_alone_with, call_by_workers};
 pub use network::{TrialStop, plan_of_text};
 pub use starting::{askers, standard_components, started};
 pub use turns::{next_turn, seen_turn};

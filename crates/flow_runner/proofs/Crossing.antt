@@ -32,8 +32,16 @@ use Rattle.flow_ring.specs.contracts.layout.Layout as Layout
 use Rattle.flow_floor.specs.contracts.floor.Floor as Floor
 use Rattle.flow_runner.specs.contracts.line.Line as Line
 use Rattle.flow_runner.specs.contracts.line.LinePass as LinePass
+use Rattle.flow_runner.specs.contracts.lines.Post as Post
+use Rattle.flow_runner.specs.contracts.lines.Lines as Lines
+use Rattle.flow_runner.specs.contracts.watch.Watch as Watch
 use Rattle.flow_runner.specs.contracts.server.Server as Server
 use Rattle.flow_runner.proofs.rest.Bell.TheSendSync as Bell
+use Rattle.flow_runner.proofs.lines.Told.TheSendSync as ToldSync
+use Rattle.flow_runner.specs.contracts.lines.Told as Told
+use Rattle.flow_runner.proofs.lines.Common.TheSendSync as CommonSync
+use Rattle.flow_runner.specs.contracts.lines.Common as Common
+use Rattle.crossbeam_utils.specs.contracts.cache_padded.CachePadded as Padded
 
 inlet-send : IsSend Inlet.the_row
 inlet-send = search (sendable, crosses) depth 20
@@ -88,13 +96,42 @@ floor-sync K g s = let slot = slot-send K g s in search (sendable, table-sync, l
 pass-send : IsSend LinePass.the_row
 pass-send = search (sendable, Seat.the_send) depth 20
 
--- A worker with its pass.
+-- A worker with its passes.
+passes-send : IsSend (Vec.the_row LinePass.the_row Heap.the_row ghosts)
+passes-send = search (sendable, crosses, pass-send) depth 20
+
+watch-send : IsSend Watch.the_row
+watch-send = search (sendable, crosses) depth 20
+
 pub server-send : (K : RattleType) (g : Component.Ghosts K.Denot) → IsSend K → IsSend (Server.the_row K g)
-server-send K g s = let worker = worker-send K g s in search (sendable, crosses, Seat.the_send, slot-send, pass-send) depth 40 fits 10000
+server-send K g s = let worker = worker-send K g s in search (sendable, crosses, Seat.the_send, slot-send, passes-send, watch-send) depth 40 fits 10000
 
 -- The line.
 pub line-sync : IsSync Line.the_row
 line-sync = search (sendable, crosses, table-sync, Bell.the_sync) depth 20
+
+-- The same, with what it says of its parts.
+line-field : IsSync (Line.the_field).row
+line-field = search (sendable, crosses, table-sync, Bell.the_sync) depth 20
+
+-- What a worker tells and is told, with nothing beside it.
+padded-sync : IsSync (Padded.the_row Told.the_row)
+padded-sync = search (sendable, crosses, ToldSync.the_sync) depth 20
+
+-- What all have in common.
+common-sync : IsSync (Padded.the_row Common.the_row)
+common-sync = search (sendable, crosses, CommonSync.the_sync) depth 20
+
+-- A line, and what its worker tells and is told.
+post-sync : IsSync Post.the_row
+post-sync = search (sendable, crosses, line-field, padded-sync) depth 20
+
+posts-sync : IsSync (Vec.the_row Post.the_row Heap.the_row ghosts)
+posts-sync = search (sendable, crosses, post-sync) depth 20
+
+-- All lines.
+pub lines-sync : IsSync Lines.the_row
+lines-sync = search (sendable, crosses, posts-sync, Bell.the_sync, common-sync) depth 20
 
 -- So may a reference to a budget.
 pub budget-sync : (ℓ : Lifetime) (κ : Lft) → IsSync (ShrRef ℓ κ (Option.the_row u64))

@@ -7,4 +7,6 @@ pub mod Served
 pub mod Budgets
 pub mod Crossing
 pub mod Joined
+pub mod Posts
 pub mod Rounds
+pub mod Followed

@@ -5,9 +5,9 @@ use Rattle.flow_floor.specs.declared.floor.Floor.{Floor}
 use Rattle.flow_floor.specs.declared.floor.Worker.{Worker}
 use Rattle.flow_floor.specs.Floors.{turns_of, HasReadZero, IsIdleAt, IsNewWorker}
 use Rattle.flow_runner.specs.declared.server.Server.{Server}
-use Rattle.flow_runner.specs.declared.line.Line.{Line}
-use Rattle.flow_runner.specs.Lines.{IsPassAt}
-use Rattle.flow_runner.specs.Serving.{HasDone, HasServed, IsAtLine, workers_at}
+use Rattle.flow_runner.specs.declared.lines.Post.{Post}
+use Rattle.flow_runner.specs.Posts.{IsAtPosts, IsPosted}
+use Rattle.flow_runner.specs.Serving.{HasDone, HasServed, workers_at}
 
 module _ {K : Type 0} where
   -- What holds of each server's worker before and after holds of the workers, in order.
@@ -21,11 +21,11 @@ module _ {K : Type 0} where
   workers-push [] s = refl
   workers-push (x ∷ ss) s = ap (λ ws. x.worker ∷ ws) (workers-push ss s)
 
-  -- Workers who hold nothing, each with a pass of the line.
-  pub each-at : (floor : Floor K) (line : Line) (ss : List (Server K)) → All (IsIdleAt floor) (workers_at ss) → All (λ (s : Server K). IsPassAt line s.pass) ss → All (IsAtLine floor line) ss
-  each-at floor line [] idle passes k d lt = absurd (omega (arith, lt))
-  each-at floor line (s ∷ ss) idle passes zero d lt = (idle zero s.worker (omega arith), passes zero d (omega arith))
-  each-at floor line (s ∷ ss) idle passes (suc k) d lt = each-at floor line ss (λ j e m. idle (suc j) e (omega (arith, m))) (λ j e m. passes (suc j) e (omega (arith, m))) k d (omega (arith, lt))
+  -- Workers who hold nothing, each with a pass of each line.
+  pub each-at : (floor : Floor K) (posts : List Post) (ss : List (Server K)) → All (IsIdleAt floor) (workers_at ss) → All (IsPosted posts) ss → All (IsAtPosts floor posts) ss
+  each-at floor posts [] idle posted k d lt = absurd (omega (arith, lt))
+  each-at floor posts (s ∷ ss) idle posted zero d lt = (idle zero s.worker (omega arith), posted zero d (omega arith))
+  each-at floor posts (s ∷ ss) idle posted (suc k) d lt = each-at floor posts ss (λ j e m. idle (suc j) e (omega (arith, m))) (λ j e m. posted (suc j) e (omega (arith, m))) k d (omega (arith, lt))
 
   pub same-count : (xs ys : List (Server K)) → length ys ≡ length xs → length (workers_at ys) ≡ length (workers_at xs)
   same-count xs ys len = length-map ys (λ (s : Server K). s.worker) ∙ len ∙ sym (length-map xs (λ (s : Server K). s.worker))

@@ -2,5 +2,6 @@ pub mod Attempts
 pub mod Crews
 pub mod Fair
 pub mod Lines
+pub mod Posts
 pub mod Serving
 pub mod Stretches

@@ -2,7 +2,7 @@
 use Rattle.std.specs.Prelude.{◌≡◌, ℕ, ◌<◌, List, ◌++◌, All, map, Option, Some, None}
 use Rattle.flow_floor.specs.declared.floor.Floor.{Floor}
 use Rattle.flow_floor.specs.declared.floor.Worker.{Worker}
-use Rattle.flow_floor.specs.Floors.{asked_of, readied_of, process_count, HasReadZero, IsIdleAt}
+use Rattle.flow_floor.specs.Floors.{asked_of, readied_of, process_count, HasReadZero}
 use Rattle.flow_runner.specs.declared.line.Line.{Line}
 use Rattle.flow_runner.specs.declared.line.LinePass.{LinePass}
 use Rattle.flow_runner.specs.declared.readied.Unpushed.{Unpushed}
@@ -63,10 +63,6 @@ module _ {K : Type 0} where
   abbrev pub HasDone : Option ℕ → Worker K → Type 0
   HasDone None w = HasReadZero w
   HasDone (Some budget) w = HasMade budget w
-
-  -- The worker holds nothing of this floor, and its pass is this line's.
-  abbrev pub IsAtLine : Floor K → Line → Server K → Type 0
-  IsAtLine floor line s = IsIdleAt floor s.worker × IsPassAt line s.pass
 
   -- The workers of these servers.
   abbrev pub workers_at : List (Server K) → List (Worker K)

@@ -29,6 +29,17 @@ impl Line {
         passes
     }
 
+    /// One pass more, cut off this one, which has a part to spare.
+    pub(crate) fn share(&self, first: &mut LinePass) -> LinePass
+        requires first { IsPassAt self.now first.old }
+        requires parts { 2 ≤ parts_of first.old }
+        ensures first { IsPassAt self.now first.new × (parts_of first.new + 1 ≡ parts_of first.old) }
+        ensures pass { IsPassAt self.now result }
+    {
+        let pass = self.queue.another::<Cut>(&mut first.pass);
+        LinePass { pass }
+    }
+
     fn open_as<S: Size>(
         alloc: Global,
         processes: u32,

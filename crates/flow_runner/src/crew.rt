@@ -6,6 +6,7 @@ ghost use Rattle.flow_machine.specs.Solo.{ReachesNet};
 ghost use Rattle.flow_runner.specs.Crews.{HasWorkers, MergeToAll, made_each, turns_each, turns_of_crew};
 ghost use Rattle.std.specs.Prelude.{◌≡◌, ◌≤◌, IfOk, [], length};
 
+use crate::groups::first_lines;
 use crate::together::make_turns;
 use crate::turns::Turns;
 use crate::worked::{Crew, Worked};
@@ -80,6 +81,10 @@ pub fn run<K: Component + Send, G: Gate + Sync, R: Threads + Wait + Sync>(
     ensures ended_are_told { IfOk result (λ worked. EndedAreTold worked.closed.net) }
     ensures quiet { IfOk result (λ worked. worked.closed.starved.items ≡ [] → IsQuietNet worked.closed.net) }
 {
+    let Ok(begins) = first_lines(alloc, &net, workers) else {
+        net.discard();
+        return Err(RunStop::NoMemory);
+    };
     let opened = match Floor::open(alloc, net, workers) {
         Ok(opened) => opened,
         Err(OpenStop { net }) => {
@@ -92,7 +97,16 @@ pub fn run<K: Component + Send, G: Gate + Sync, R: Threads + Wait + Sync>(
         workers: crew,
         rooms,
     } = opened;
-    match make_turns(rt, alloc, &floor, crew, workers, gate, None) {
+    match make_turns(
+        rt,
+        alloc,
+        &floor,
+        crew,
+        workers,
+        begins.as_slice(),
+        gate,
+        None,
+    ) {
         Ok(crew) => {
             let by = Crew::of(&crew);
             let closed = floor.close(crew, rooms);

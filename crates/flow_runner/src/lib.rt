@@ -4,15 +4,22 @@
 
 mod calls;
 mod crew;
+mod groups;
+mod judge;
 mod line;
+mod lines;
 mod paused;
+mod posted;
 mod readied;
 mod rest;
 mod server;
 mod service;
+mod stint;
 mod stretches;
 mod together;
+mod tuned;
 mod turns;
+mod watch;
 mod work;
 mod worked;
 

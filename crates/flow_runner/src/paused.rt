@@ -6,6 +6,7 @@ ghost use Rattle.flow_machine.specs.Solo.{ReachesNet};
 ghost use Rattle.std.specs.Prelude.{◌≡◌, ◌+◌, ◌*◌, ◌≤◌, ◌⊎◌, IfOk, []};
 
 use crate::crew::RunStop;
+use crate::groups::first_lines;
 use crate::together::make_turns;
 use flow_component::{Component, Gate};
 use flow_floor::{Floor, OpenStop, Opened};
@@ -34,6 +35,10 @@ pub fn run_for<K: Component + Send, G: Gate + Sync, R: Threads + Wait + Sync>(
     ensures spent { IfOk result (λ closed. (turns_made closed.net ≡ turns_made net + workers * budget) ⊎ (closed.starved.items ≡ [] → IsQuietNet closed.net)) }
     ensures ended_are_told { IfOk result (λ closed. (turns_made closed.net ≡ turns_made net + workers * budget) ⊎ EndedAreTold closed.net) }
 {
+    let Ok(begins) = first_lines(alloc, &net, workers) else {
+        net.discard();
+        return Err(RunStop::NoMemory);
+    };
     let opened = match Floor::open(alloc, net, workers) {
         Ok(opened) => opened,
         Err(OpenStop { net }) => {
@@ -46,7 +51,16 @@ pub fn run_for<K: Component + Send, G: Gate + Sync, R: Threads + Wait + Sync>(
         workers: crew,
         rooms,
     } = opened;
-    match make_turns(rt, alloc, &floor, crew, workers, gate, Some(budget)) {
+    match make_turns(
+        rt,
+        alloc,
+        &floor,
+        crew,
+        workers,
+        begins.as_slice(),
+        gate,
+        Some(budget),
+    ) {
         Ok(crew) => Ok(floor.pause(crew, rooms)),
         Err(crew) => {
             floor.discard(crew, rooms);

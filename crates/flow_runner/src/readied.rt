@@ -21,6 +21,10 @@ pub(crate) struct Unpushed {
     /// Where there is no room for more, all are pushed.
     names: ArrayVec<u32, 32>,
     turns: u32,
+    /// After how many turns they are pushed.
+    after: u32,
+    /// Whether some were pushed of whom `takes_pushed` hasn't told yet.
+    pushed: bool,
 }
 
 impl Unpushed {
@@ -30,7 +34,25 @@ impl Unpushed {
         Unpushed {
             names: ArrayVec::new(),
             turns: 0,
+            after: PUSHED_AFTER,
+            pushed: false,
         }
+    }
+
+    /// From now on they are pushed after so many turns at most: where bursts are shorter, as soon as one is over.
+    pub(crate) fn push_after(&mut self, turns: u32)
+        ensures { names_of self.new ≡ names_of self.old }
+    {
+        self.after = turns;
+    }
+
+    /// Whether some were pushed since it was asked last.
+    pub(crate) fn takes_pushed(&mut self) -> bool
+        ensures { names_of self.new ≡ names_of self.old }
+    {
+        let pushed = self.pushed;
+        self.pushed = false;
+        pushed
     }
 }
 
@@ -79,11 +101,13 @@ pub(crate) fn push_all<R: Wait>(rt: &R, line: &Line, pass: &mut LinePass, unpush
     ensures none { names_of unpushed.new ≡ [] }
 {
     let names = unpushed.names.as_slice();
+    let some = !names.is_empty();
     for i in 0..names.len() {
         push_surely(rt, line, pass, names[i]);
     }
     unpushed.names.clear();
     unpushed.turns = 0;
+    unpushed.pushed |= some;
 }
 
 /// Keeps those whom the worker's last call made ready, which made so many turns, behind those who weren't pushed yet. Where that is due, or there is no room
@@ -115,7 +139,7 @@ pub(crate) fn keep_woken<K: Component, R: Wait>(
         push_woken(rt, line, worker, pass);
         return;
     }
-    if unpushed.turns >= PUSHED_AFTER {
+    if unpushed.turns >= unpushed.after.min(PUSHED_AFTER) {
         push_all(rt, line, pass, unpushed);
     }
 }

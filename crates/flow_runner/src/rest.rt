@@ -13,28 +13,62 @@ const SHORTEST: u64 = 50;
 /// The longest sleep, in microseconds. No process that becomes ready is left lying for longer because all others sleep.
 const LONGEST: u64 = 3_200;
 
-/// Tells the workers of a run who sleep that it is over.
+/// Tells the workers of a run who sleep that it is over, or that there is something to do.
 #[derive(Drop)]
 pub(crate) struct Bell {
     rung: AtomicU64,
+    /// How often somebody was called; and who sleeps, sleeps until that changes.
+    calls: AtomicU64,
+    /// How many sleep.
+    sleepers: AtomicU64,
 }
 
 impl Bell {
     pub(crate) fn new() -> Bell {
         Bell {
             rung: AtomicU64::new(0),
+            calls: AtomicU64::new(0),
+            sleepers: AtomicU64::new(0),
         }
     }
 
     /// Ends each sleep, those that begin later too.
     pub(crate) fn ring(&self) {
         self.rung.store(1, Ordering::SeqCst);
-        self.rung.wake_all();
+        self.call_all();
     }
 
-    /// Sleeps so many microseconds at most.
-    fn sleep<R: Wait>(&self, rt: &R, micros: u64) {
-        self.rung.park_timeout(rt, 0, Duration::from_micros(micros));
+    pub(crate) fn somebody_sleeps(&self) -> bool {
+        self.sleepers.load(Ordering::SeqCst) > 0
+    }
+
+    /// Ends a sleep, if there is one.
+    pub(crate) fn call(&self) {
+        if self.somebody_sleeps() {
+            self.calls.fetch_add(1, Ordering::SeqCst);
+            self.calls.wake_one();
+        }
+    }
+
+    /// Ends each sleep that there is.
+    pub(crate) fn call_all(&self) {
+        self.calls.fetch_add(1, Ordering::SeqCst);
+        self.calls.wake_all();
+    }
+
+    /// Sleeps so many microseconds at most; whether it was so many, and nobody was called meanwhile.
+    fn sleep<R: Wait>(&self, rt: &R, micros: u64) -> bool {
+        let calls = self.calls.load(Ordering::SeqCst);
+        // Whoever rings does so before the call: no sleep begins behind both.
+        if self.rung.load(Ordering::SeqCst) == 1 {
+            return false;
+        }
+        self.sleepers.fetch_add(1, Ordering::SeqCst);
+        let low = (calls & 0xffff_ffff) as u32;
+        self.calls
+            .park_timeout(rt, low, Duration::from_micros(micros));
+        self.sleepers.fetch_sub(1, Ordering::SeqCst);
+        self.calls.load(Ordering::SeqCst) == calls
     }
 }
 
@@ -66,15 +100,18 @@ impl Rest {
         self.next_sleep = SHORTEST;
     }
 
-    /// Gives way once more, for longer than before.
-    pub(crate) fn go_on<R: Wait>(&mut self, rt: &R, bell: &Bell)
+    /// Gives way once more, for longer than before. How many microseconds it slept at least; 0 where that isn't known, since somebody was called.
+    pub(crate) fn go_on<R: Wait>(&mut self, rt: &R, bell: &Bell) -> u64
         ensures { (self.new.next_sleep ≡ self.old.next_sleep) ⊎ (self.new.next_sleep ≡ min (2 * self.old.next_sleep) LONGEST) }
     {
         if self.backoff.is_completed() {
-            bell.sleep(rt, self.next_sleep);
-            self.next_sleep = (2 * self.next_sleep).min(LONGEST);
+            let micros = self.next_sleep;
+            let whole = bell.sleep(rt, micros);
+            self.next_sleep = (2 * micros).min(LONGEST);
+            if whole { micros } else { 0 }
         } else {
             self.backoff.snooze();
+            0
         }
     }
 }

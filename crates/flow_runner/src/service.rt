@@ -7,6 +7,7 @@ ghost use Rattle.std.specs.Prelude.{◌≡◌, ◌≤◌, IfSome, IsTrue};
 
 use crate::line::{Line, LinePass};
 use crate::rest::Rest;
+use crate::stint::Stint;
 use crate::work::tend;
 use flow_component::{Component, Gate};
 use flow_floor::{Floor, Worker};
@@ -22,23 +23,23 @@ fn tend_next<K: Component, G: Gate, R: Wait>(
     pass: &mut LinePass,
     gate: &G,
     rest: &mut Rest,
-    left: &mut u64,
+    stint: &mut Stint,
 ) -> bool
     requires idle { IsIdleAt floor.now worker.old }
     requires line { IsLineFor floor.now line.now }
     requires pass { IsPassAt line.now pass.old }
     ensures idle { IsIdleAt floor.now worker.new }
     ensures share { HasSameShare worker.old worker.new }
-    ensures spends { Spends (turns_of worker.old) left.old (turns_of worker.new) left.new }
+    ensures spends { Spends (turns_of worker.old) stint.old.left (turns_of worker.new) stint.new.left }
     ensures follows { Follows line.now worker.old pass.old worker.new pass.new }
     ensures zero { IsTrue result → HasReadZero worker.new }
 {
     match line.pop(rt, pass) {
         Some(process) => {
-            if tend(rt, floor, line, worker, pass, process as usize, gate, left) {
+            if tend(rt, floor, line, worker, pass, process as usize, gate, stint) {
                 rest.end();
             } else {
-                rest.go_on(rt, &line.bell);
+                let _ = rest.go_on(rt, &line.bell);
             }
             false
         }
@@ -46,7 +47,7 @@ fn tend_next<K: Component, G: Gate, R: Wait>(
             if floor.live(worker) == 0 {
                 return true;
             }
-            rest.go_on(rt, &line.bell);
+            let _ = rest.go_on(rt, &line.bell);
             false
         }
     }
@@ -71,8 +72,8 @@ fn serve_on<K: Component, G: Gate, R: Wait>(
 {
     let mut rest = Rest::new();
     for _ in rt.forever() {
-        let mut left = u64::MAX;
-        if tend_next(rt, floor, line, worker, pass, gate, &mut rest, &mut left) {
+        let mut stint = Stint::alone(u64::MAX);
+        if tend_next(rt, floor, line, worker, pass, gate, &mut rest, &mut stint) {
             line.bell.ring();
             return;
         }
@@ -99,12 +100,12 @@ fn serve_for<K: Component, G: Gate, R: Wait>(
     ensures spent { HasSpent budget worker.old worker.new }
 {
     let mut rest = Rest::new();
-    let mut left = budget;
+    let mut stint = Stint::alone(budget);
     for _ in rt.forever() {
-        if left == 0 {
+        if stint.left == 0 {
             return;
         }
-        if tend_next(rt, floor, line, worker, pass, gate, &mut rest, &mut left) {
+        if tend_next(rt, floor, line, worker, pass, gate, &mut rest, &mut stint) {
             line.bell.ring();
             return;
         }

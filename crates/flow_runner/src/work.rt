@@ -8,14 +8,12 @@ ghost use Rattle.std.specs.Prelude.{◌≡◌, ◌<◌, ◌≤◌, ◌++◌, [],
 
 use crate::line::{Line, LinePass};
 use crate::readied::{Unpushed, keep_woken, push_all, push_woken};
+use crate::stint::Stint;
 use flow_component::{Component, Gate};
 use flow_floor::{Burst, Claim, Floor, Held, Worker};
 use flow_limits::RUN_LIMIT;
 use flow_machine::{Over, Thought};
 use std::sync::Wait;
-
-/// The most turns that a worker makes of one process before it stamps them and tells the others of them.
-const BURST_LIMIT: u64 = 256;
 
 /// What an attempt at turns of a held process came to.
 pub(crate) enum Attempt {
@@ -118,7 +116,7 @@ fn work<K: Component, G: Gate, R: Wait>(
     unpushed: &mut Unpushed,
     held: &mut Held<K>,
     gate: &G,
-    left: &mut u64,
+    stint: &mut Stint,
 ) -> Attempt
     requires held { IsHeldAt K.rules floor.now worker.old held.old }
     requires wired { IsWiredAt floor.now held.old }
@@ -128,17 +126,18 @@ fn work<K: Component, G: Gate, R: Wait>(
     ensures held { IsHeldAt K.rules floor.now worker.new held.new }
     ensures may { MayGo floor.now worker.new held.new result }
     ensures same { IsSameWorker worker.old worker.new }
-    ensures spends { Spends (turns_of worker.old) left.old (turns_of worker.new) left.new }
+    ensures spends { Spends (turns_of worker.old) stint.old.left (turns_of worker.new) stint.new.left }
     ensures pushes { PushesBut line.now worker.old pass.old (names_of unpushed.old) worker.new pass.new (names_of unpushed.new) }
     ensures left { MayStandIn line.now (names_of unpushed.new) }
 {
     for _burst in 0..RUN_LIMIT {
-        if *left == 0 {
+        if stint.left == 0 {
             return Attempt::Made(0);
         }
-        let most = (*left).min(BURST_LIMIT) as u32;
+        let most = stint.next();
+        unpushed.push_after(stint.burst);
         match try_turns(rt, floor, line, worker, pass, unpushed, held, gate, most) {
-            Attempt::Made(count) => *left -= count as u64,
+            Attempt::Made(count) => stint.made(count, unpushed.takes_pushed()),
             Attempt::Busy => return Attempt::Busy,
             Attempt::Blocked => return Attempt::Blocked,
             Attempt::Over(over) => return Attempt::Over(over),
@@ -174,7 +173,7 @@ pub(crate) fn tend<K: Component, G: Gate, R: Wait>(
     pass: &mut LinePass,
     process: usize,
     gate: &G,
-    left: &mut u64,
+    stint: &mut Stint,
 ) -> bool
     requires idle { IsIdleAt floor.now worker.old }
     requires range { process < process_count floor.now }
@@ -183,7 +182,7 @@ pub(crate) fn tend<K: Component, G: Gate, R: Wait>(
     ensures idle { IsIdleAt floor.now worker.new }
     ensures share { HasSameShare worker.old worker.new }
     ensures asked { asked_of worker.new ≡ asked_of worker.old ++ process ∷ [] }
-    ensures spends { Spends (turns_of worker.old) left.old (turns_of worker.new) left.new }
+    ensures spends { Spends (turns_of worker.old) stint.old.left (turns_of worker.new) stint.new.left }
     ensures pushes { Pushes line.now worker.old pass.old worker.new pass.new }
 {
     match floor.claim(worker, process) {
@@ -198,7 +197,7 @@ pub(crate) fn tend<K: Component, G: Gate, R: Wait>(
                 &mut unpushed,
                 &mut held,
                 gate,
-                left,
+                stint,
             );
             let waits = matches!(&last, Attempt::Busy);
             let_go(floor, worker, held, last);

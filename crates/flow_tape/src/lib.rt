@@ -1,6 +1,6 @@
 //! The file of tapes, by which a run with components of the caller's own (`flow_own`) is made again without them.
-//! `flow_cli` writes it behind a run, and reads it before a replay. The contracts are those of `to_bytes` and
-//! `from_bytes`, and a law says that a file has one list of tapes or one fault.
+//! `flow_cli` writes it behind a run, and `flow_load` reads it before a replay. The contracts are those of `to_bytes`
+//! and `from_bytes`, and a law says that a file has one list of tapes or one fault.
 #![tactic(auto)]
 
 mod fault;

@@ -15,11 +15,11 @@ use Rattle.flow_model.proofs.Replay.{run, turned}
 use Rattle.flow_catalogue.specs.declared.standard.Std.{Std}
 use Rattle.flow_catalogue.specs.Std.{std_next, std_rules}
 use Rattle.flow_journal.specs.Replays.{schedule_of}
-use Rattle.flow_cli.specs.Step.{whole}
+use Rattle.flow_load.specs.Step.{whole}
 use Rattle.flow_played.specs.Others.{others, as_mixed}
 use Rattle.flow_played.specs.Plain.{AllRunAsTheyAre}
-use Rattle.flow_cli.specs.Offers.{AnyKind, Taped, net_rules}
-use Rattle.flow_cli.specs.Components.{inputs_of, AreComponents}
+use Rattle.flow_load.specs.Offers.{AnyKind, Taped, net_rules}
+use Rattle.flow_load.specs.Components.{inputs_of, AreComponents}
 use Rattle.flow_report.specs.declared.report.Verdict.TheVariants as verdicts
 use Rattle.flow_report.specs.States.{TellsOf, process_in, connection_in}
 use Rattle.flow_report.specs.Of.{block_told, failure_told, told_from}

@@ -26,9 +26,9 @@ use Rattle.flow_flat.specs.Firsts.{AllPass}
 use Rattle.flow_flat.proofs.Files.{file_once}
 use Rattle.flow_catalogue.specs.Kinds.{std_kinds}
 use Rattle.flow_offer.specs.Kinds.{table_with}
-use Rattle.flow_cli.specs.Networks.{Holds}
-use Rattle.flow_cli.proofs.MadeLines.{Saying, header, connects, connects_element, gives_kinded, lead}
-use Rattle.flow_cli.proofs.Passing.{all_pass, all_ok}
+use Rattle.flow_load.specs.Networks.{Holds}
+use Rattle.flow_load.proofs.MadeLines.{Saying, header, connects, connects_element, gives_kinded, lead}
+use Rattle.flow_load.proofs.Passing.{all_pass, all_ok}
 use Rattle.flow_witness.specs.Complete.{network_bytes, balance}
 use Rattle.flow_witness.proofs.FileNames.{plain-name}
 

@@ -12,11 +12,11 @@ use Rattle.flow_catalogue.specs.declared.table.StdKind.TheVariants as kinds
 use Rattle.flow_catalogue.specs.Kinds.{name_of}
 use Rattle.flow_catalogue.specs.Processes.{IsMade, first_component, given}
 use Rattle.flow_catalogue.proofs.Names.{IsMade-kind}
-use Rattle.flow_cli.specs.Step.{whole}
+use Rattle.flow_load.specs.Step.{whole}
 use Rattle.flow_own.specs.Mixed.{Other, Own}
 use Rattle.flow_played.specs.Others.{others}
-use Rattle.flow_cli.specs.Offers.{AnyKind, Taped}
-use Rattle.flow_cli.specs.Components.{inputs_of, AreComponents, IsComponent, IsPlayedComponent}
+use Rattle.flow_load.specs.Offers.{AnyKind, Taped}
+use Rattle.flow_load.specs.Components.{inputs_of, AreComponents, IsComponent, IsPlayedComponent}
 use Rattle.flow_witness.specs.Complete.{balance, input_bytes, input_file}
 
 abbrev fresh_discard : Discard

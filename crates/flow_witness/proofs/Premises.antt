@@ -21,13 +21,13 @@ use Rattle.flow_journal.specs.Files.{HasOneJournal, IsFileOf}
 use Rattle.flow_journal.specs.Replays.{schedule_of}
 use Rattle.flow_journal.specs.declared.merge.Journal.{Journal}
 use Rattle.flow_played.specs.Plain.{AllRunAsTheyAre}
-use Rattle.flow_cli.specs.Step.{Filled, whole}
-use Rattle.flow_cli.specs.Networks.{Holds}
-use Rattle.flow_cli.specs.Causes.{Work}
-use Rattle.flow_cli.specs.Reads.{Asks, file_of, IsCommand}
-use Rattle.flow_cli.specs.Offers.{AnyKind, Offer, net_rules}
-use Rattle.flow_cli.specs.Top.{AreValid, BeginsJournal, IsLimitAt, IsReplay, IsTapesAt, IsValid, IsValidReplay}
-use Rattle.flow_cli.proofs.Overs.{none-own}
+use Rattle.flow_load.specs.Step.{Filled, whole}
+use Rattle.flow_load.specs.Networks.{Holds}
+use Rattle.flow_load.specs.Causes.{Work}
+use Rattle.flow_load.specs.Reads.{Asks, file_of, IsCommand}
+use Rattle.flow_load.specs.Offers.{AnyKind, Offer, net_rules}
+use Rattle.flow_load.specs.Valid.{AreValid, BeginsJournal, IsLimitAt, IsReplay, IsTapesAt, IsValid, IsValidReplay}
+use Rattle.flow_load.proofs.NoKinds.{none-own}
 use Rattle.flow_witness.specs.Complete.{network_file, input_file, journal_file, network_bytes, journal_bytes, balance, balance_journal}
 use Rattle.flow_witness.proofs.Wired.{at_one, at_two, at_three}
 use Rattle.flow_witness.proofs.BalanceFile.{balance_value, holds, only_plan}

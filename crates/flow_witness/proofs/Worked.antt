@@ -30,15 +30,15 @@ use Rattle.flow_offer.specs.Kinds.{AreOwnKinds}
 use Rattle.flow_offer.specs.Processes.{IsOfferedPlan}
 use Rattle.flow_report.specs.Text.{report_text}
 use Rattle.flow_report.specs.States.{TellsOf}
-use Rattle.flow_cli.specs.Step.{Filled, whole, IsRead}
-use Rattle.flow_cli.specs.Offers.{AnyKind, Recorded, Taped, net_rules}
-use Rattle.flow_cli.specs.Components.{AreComponents, IsComponent, IsPlayedComponent}
-use Rattle.flow_cli.specs.Many.{replaced_all}
-use Rattle.flow_cli.specs.Runs.{kept_files}
-use Rattle.flow_cli.specs.Reads.{IsFile, IsJournalFile, IsReady}
+use Rattle.flow_load.specs.Step.{Filled, whole, IsRead}
+use Rattle.flow_load.specs.Offers.{AnyKind, Recorded, Taped, net_rules}
+use Rattle.flow_load.specs.Components.{AreComponents, IsComponent, IsPlayedComponent}
+use Rattle.flow_load.specs.Many.{replaced_all}
+use Rattle.flow_load.specs.Runs.{kept_files}
+use Rattle.flow_load.specs.Reads.{IsFile, IsJournalFile, IsReady}
 use Rattle.flow_cli.specs.Top.{Call, answer}
-use Rattle.flow_cli.proofs.Overs.{none-own}
-use Rattle.flow_cli.specs.declared.status.Status.TheVariants.{Finished}
+use Rattle.flow_load.proofs.NoKinds.{none-own}
+use Rattle.flow_load.specs.declared.status.Status.TheVariants.{Finished}
 use Rattle.flow_witness.specs.Complete.{balance, balance_journal, network_bytes, input_bytes, journal_bytes, network_file, input_file, journal_file, held_files, shelf_before, CanMeet, PremisesAreMet}
 use Rattle.flow_witness.proofs.Wired.{at_one}
 use Rattle.flow_witness.proofs.BalanceFile.{balance_value, holds}

@@ -10,9 +10,10 @@ use Rattle.flow_plan.specs.Network.{Network}
 use Rattle.flow_words.specs.Words.{Asked, run_of, Run, Check, Judge, Replay, command_of}
 use Rattle.flow_journal.specs.Files.{IsFileOf}
 use Rattle.flow_journal.specs.declared.merge.Journal.{Journal}
-use Rattle.flow_cli.specs.Step.{Filled, whole}
-use Rattle.flow_cli.specs.Reads.{Asks}
-use Rattle.flow_cli.specs.Top.{Call, ComesToEnd, IsValid, IsValidReplay, NoFaults}
+use Rattle.flow_load.specs.Step.{Filled, whole}
+use Rattle.flow_load.specs.Reads.{Asks}
+use Rattle.flow_cli.specs.Top.{Call, ComesToEnd, NoFaults}
+use Rattle.flow_load.specs.Valid.{IsValid, IsValidReplay}
 use Rattle.flow_witness.specs.Chain.{plain_row, reader_of}
 use Rattle.flow_witness.specs.Ends.{reader_ports}
 

@@ -1,4 +1,4 @@
-//! The words of the command line, read by the toolkit's `clap`. `flow_cli` asks it which call the words are. The
+//! The words of the command line, read by the toolkit's `clap`. `flow_load` asks it which call the words are. The
 //! contract is that of `command`: for every list of words the one call that they spell, or that they spell none.
 #![tactic(auto)]
 

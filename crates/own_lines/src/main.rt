@@ -5,7 +5,7 @@
 
 ghost use Rattle.std.specs.Prelude.{IfOk};
 ghost use Rattle.flow_offer.specs.Kinds.{AreOwnKinds};
-ghost use Rattle.flow_cli.specs.Offers.{offers_of, specs_of};
+ghost use Rattle.flow_load.specs.Offers.{offers_of, specs_of};
 
 use flow_cli::{OwnKind, Status, busy_top, needs_workers, plain_top};
 use flow_component::NoGate;

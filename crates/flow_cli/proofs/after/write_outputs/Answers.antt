@@ -1,6 +1,6 @@
 use Rattle.std.proofs.lemmas.Result.{err_from_is_err_and}
 use Rattle.flow_cli.specs.Top.{outputs_of_run}
-use Rattle.flow_cli.proofs.Writings.{nothing-written}
+use Rattle.flow_load.proofs.Writings.{nothing-written}
 use Rattle.flow_cli.proofs.after.write_outputs.Goals as goal
 
 pub returns-in_err-outputs : goal.returns-in_err-outputs

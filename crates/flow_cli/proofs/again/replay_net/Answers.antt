@@ -1,9 +1,10 @@
 use Rattle.std.proofs.Common.{List, sym, subst}
 use Rattle.flow_model.specs.Plans.{StartsWell}
 use Rattle.flow_machine.specs.Starts.{StartsNet}
-use Rattle.flow_cli.specs.Offers.{AnyKind, net_rules}
-use Rattle.flow_cli.proofs.Fitting.{components-fit, known-players}
-use Rattle.flow_cli.proofs.LeavingAgain.{stopped-again, told-again}
+use Rattle.flow_load.specs.Offers.{AnyKind, net_rules}
+use Rattle.flow_load.proofs.Fitting.{components-fit, known-players}
+use Rattle.flow_load.proofs.Replaying.{stopped-again}
+use Rattle.flow_cli.proofs.LeavingAgain.{told-again}
 use Rattle.flow_cli.proofs.again.replay_net.Goals as goal
 
 pub start-requires-clause-well : goal.start-requires-clause-well

@@ -1,12 +1,12 @@
 use Rattle.std.proofs.Common.{Ok, subst}
 use Rattle.flow_words.specs.Words.{Check, Judge, Replay, run_by}
-use Rattle.flow_cli.specs.Offers.{AnyKind}
-use Rattle.flow_cli.specs.Prepare.{Prepares}
-use Rattle.flow_cli.specs.declared.before.Task.{Task}
+use Rattle.flow_load.specs.Offers.{AnyKind}
+use Rattle.flow_load.specs.Prepare.{Prepares}
+use Rattle.flow_load.specs.declared.before.Task.{Task}
 use Rattle.flow_cli.proofs.Beginnings.{again-components, again-offered, begins-make, begins-run, run-live, run-offered, some-offer}
 use Rattle.flow_cli.proofs.Manned.{as-asked, by-none}
 use Rattle.flow_cli.proofs.Performing.{again-stopped, says-again, says-checked, says-judged, wants-memory}
-use Rattle.flow_cli.proofs.Steps.{may-read}
+use Rattle.flow_load.proofs.Steps.{may-read}
 use Rattle.flow_cli.proofs.begin.begin.Goals as goal
 
 pub start-requires-clause-offered : goal.start-requires-clause-offered

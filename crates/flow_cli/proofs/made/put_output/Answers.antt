@@ -1,6 +1,6 @@
 use Rattle.std.proofs.Common.{◌≡◌, List, get_or, sym, subst, ◌∙◌, ap}
 use Rattle.flow_plan.specs.declared.plan.Process.{Process}
-use Rattle.flow_cli.specs.Runs.{bytes_at}
+use Rattle.flow_cli.specs.Leaves.{bytes_at}
 use Rattle.flow_cli.proofs.Lining.{puts-line}
 use Rattle.flow_cli.proofs.made.put_output.Goals as goal
 

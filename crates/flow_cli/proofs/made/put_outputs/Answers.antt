@@ -1,5 +1,5 @@
 use Rattle.std.proofs.Common.{◌<◌, length, ap, arith, add-one}
-use Rattle.flow_cli.specs.Runs.{bytes_at}
+use Rattle.flow_cli.specs.Leaves.{bytes_at}
 use Rattle.flow_cli.proofs.Lining.{one-line-more}
 use Rattle.flow_cli.proofs.made.put_outputs.Goals as goal
 

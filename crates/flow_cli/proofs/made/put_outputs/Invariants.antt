@@ -1,6 +1,6 @@
 use Rattle.std.proofs.Common.{◌≡◌, ◌++◌, take}
 use Rattle.flow_cli.specs.Makes.{output_lines_from}
-use Rattle.flow_cli.specs.Runs.{bytes_at}
+use Rattle.flow_cli.specs.Leaves.{bytes_at}
 use Rattle.flow_cli.proofs.made.put_outputs.Given as goal
 
 abbrev pub invariant-loop-process : goal.invariant-loop-process

@@ -1,5 +1,5 @@
-use Rattle.flow_cli.specs.Offers.{known}
-use Rattle.flow_cli.proofs.Fitting.{live-fit}
+use Rattle.flow_load.specs.Offers.{known}
+use Rattle.flow_load.proofs.Fitting.{live-fit}
 use Rattle.flow_cli.proofs.start.start.Goals as goal
 
 pub start-requires-clause-well : goal.start-requires-clause-well

@@ -1,6 +1,6 @@
 use Rattle.std.proofs.Common.{List, [], ℕ, Ok, Err, subst}
-use Rattle.flow_cli.specs.Networks.{ReadsAs}
-use Rattle.flow_cli.proofs.Parting.{read-stopped}
+use Rattle.flow_load.specs.Networks.{ReadsAs}
+use Rattle.flow_load.proofs.Parting.{read-stopped}
 use Rattle.flow_draw.proofs.Reading.{file-read, file-refused, file-stopped}
 use Rattle.flow_draw.proofs.scene.load.Goals as goal
 

@@ -1,7 +1,7 @@
 use Rattle.std.proofs.Common.{[], ◌∷◌, Some, refl}
-use Rattle.flow_cli.specs.Components.{contents_of}
-use Rattle.flow_cli.proofs.Befores.{behind-net, journal-file-of, ready}
-use Rattle.flow_cli.proofs.Steps.{may-read}
+use Rattle.flow_load.specs.Components.{contents_of}
+use Rattle.flow_load.proofs.Befores.{behind-net, journal-file-of, ready}
+use Rattle.flow_load.proofs.Steps.{may-read}
 use Rattle.flow_draw.proofs.Plain.{no-tapes}
 use Rattle.flow_draw.proofs.Reading.{net-stopped, journal-stopped, inputs-stopped, replay-stopped}
 use Rattle.flow_draw.proofs.scene.scene_of_state.Goals as goal

@@ -1,4 +1,4 @@
-use Rattle.std.proofs.Common.{◌≡◌, ◌+◌, ◌≤◌, length, drop, bytes_eq}
+use Rattle.std.proofs.Common.{◌≡◌, ◌+◌, drop, bytes_eq}
 use Rattle.std.specs.List.{common_prefix_len}
 use Rattle.flow_drawing.proofs.boxes.common.Given as goal
 

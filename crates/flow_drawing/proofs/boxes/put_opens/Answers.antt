@@ -1,4 +1,4 @@
-use Rattle.std.proofs.Common.{◌≡◌, ◌++◌, ◌∷◌, [], List, ℕ, ◌∙◌, ap}
+use Rattle.std.proofs.Common.{◌++◌, ◌∷◌, [], List, ℕ, ◌∙◌, ap}
 use Rattle.flow_drawing.specs.declared.drawing.Row.TheVariants.{Opens}
 use Rattle.flow_drawing.specs.Drawings.{begins}
 use Rattle.flow_drawing.proofs.Each.{each-step, each-end}

@@ -1,4 +1,4 @@
-use Rattle.std.proofs.Common.{◌≡◌, ◌++◌, List, ◌∙◌, ap}
+use Rattle.std.proofs.Common.{◌++◌, List, ◌∙◌, ap}
 use Rattle.std.specs.List.{flat_map}
 use Rattle.flow_plan.specs.declared.plan.Sender.{Sender}
 use Rattle.flow_drawing.specs.Drawings.{edge_of, edges_of}

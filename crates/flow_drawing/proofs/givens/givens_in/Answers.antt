@@ -1,4 +1,3 @@
-use Rattle.std.proofs.Common.{◌≡◌, ◌++◌, drop, ◌∙◌, ap, sym, refl, arith}
 use Rattle.flow_drawing.specs.Drawings.{givens_of}
 use Rattle.flow_drawing.proofs.Each.{each-step, each-end}
 use Rattle.flow_drawing.proofs.givens.givens_in.Goals as goal

@@ -1,4 +1,4 @@
-use Rattle.std.proofs.Common.{◌≡◌, ◌++◌, ◌∷◌, [], List, ◌∙◌, ap}
+use Rattle.std.proofs.Common.{◌++◌, List, ◌∙◌, ap}
 use Rattle.flow_drawing.specs.declared.drawing.Given.{Given}
 use Rattle.flow_drawing.specs.Drawings.{given_initial}
 use Rattle.flow_drawing.proofs.Each.{each-step, each-end}

@@ -1,6 +1,6 @@
 use Rattle.std.proofs.Common.{◌≡◌, ◌++◌, drop}
 use Rattle.std.specs.List.{enumerate_from, flat_map}
-use Rattle.flow_drawing.specs.Drawings.{given_option, given_initial}
+use Rattle.flow_drawing.specs.Drawings.{given_option}
 use Rattle.flow_drawing.proofs.givens.put_options.Given as goal
 
 abbrev pub invariant-loop-place : goal.invariant-loop-place

@@ -1,4 +1,4 @@
-use Rattle.std.proofs.Common.{◌≡◌, ◌∙◌, ap, sym, refl}
+use Rattle.std.proofs.Common.{◌∙◌, sym}
 use Rattle.flow_plan.specs.Network.{input_port}
 use Rattle.flow_drawing.proofs.PortNames.{is-input, named, no-input}
 use Rattle.flow_drawing.proofs.ports.input_text.Goals as goal

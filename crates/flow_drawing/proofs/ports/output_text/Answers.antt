@@ -1,4 +1,4 @@
-use Rattle.std.proofs.Common.{◌≡◌, ◌∙◌, ap, sym, refl}
+use Rattle.std.proofs.Common.{◌∙◌, sym}
 use Rattle.flow_plan.specs.Network.{output_port}
 use Rattle.flow_drawing.proofs.PortNames.{is-output, named, no-output}
 use Rattle.flow_drawing.proofs.ports.output_text.Goals as goal

@@ -1,4 +1,4 @@
-use Rattle.std.proofs.Common.{◌≡◌, ◌++◌, ◌∷◌, [], ℕ, List, replicate, ◌∙◌, ap, arith}
+use Rattle.std.proofs.Common.{◌++◌, ◌∷◌, [], ℕ, List, replicate, ◌∙◌, ap, arith}
 use mathlib.Core.Path.{ap₂}
 use Rattle.flow_drawing.specs.declared.drawing.Node.{Node}
 use Rattle.flow_drawing.specs.declared.drawing.Row.TheVariants.{Closes, Shows}

@@ -12,11 +12,11 @@ returns-in-Ok-make_turns-clause-crew g c = subst (λ n. HasWorkers n c.of-by.res
 
 pub returns-in-Ok-make_turns-clause-made : goal.returns-in-Ok-make_turns-clause-made
 returns-in-Ok-make_turns-clause-made g c =
-    subst (λ start. IsShut g.K.Component.rules start (turns_of_crew c.of-by.result) c.close-closed.result.net) c.in-Ok.ensures.opened
-    (subst (λ made. IsShut g.K.Component.rules (opened_net c.in-Ok.opened.floor) made c.close-closed.result.net)
+    subst (λ start. IsShut g.K.Component.rules start (turns_of_crew c.of-by.result) c.close-closed.result.net) c.in-Ok-open.ensures.opened
+    (subst (λ made. IsShut g.K.Component.rules (opened_net c.in-Ok-open.opened.floor) made c.close-closed.result.net)
     (sym (ap merged c.of-by.ensures.turns ∙ merge-to-all c.in-Ok-make_turns.crew.items)) c.close-closed.ensures.net)
 
 pub returns-in-Ok-make_turns-clause-reaches : goal.returns-in-Ok-make_turns-clause-reaches
 returns-in-Ok-make_turns-clause-reaches g c =
-    subst (λ start. ReachesNet g.K.Component.rules start c.close-closed.result.net) c.in-Ok.ensures.opened
+    subst (λ start. ReachesNet g.K.Component.rules start c.close-closed.result.net) c.in-Ok-open.ensures.opened
     (shut-reaches g.K.Component.rules _ c.close-closed.result.net _ c.close-closed.ensures.net)

@@ -1,6 +1,6 @@
-use Rattle.flow_runner.specs.Lines.{IsPassAt}
+use Rattle.flow_runner.specs.Posts.{posts_of, ArePassesAt}
 use Rattle.flow_runner.proofs.together.fill.Given as goal
 
--- the pass is still the line's
+-- the passes are still the lines'
 abbrev pub invariant-loop-process : goal.invariant-loop-process
-invariant-loop-process g l = IsPassAt l.line l.pass
+invariant-loop-process g l = ArePassesAt (posts_of l.lines) l.passes.items

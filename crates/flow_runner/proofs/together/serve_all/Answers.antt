@@ -5,7 +5,7 @@ use Rattle.flow_floor.specs.Floors.{IsIdleAt, HasSameShare}
 use Rattle.flow_runner.specs.Serving.{HasServed, workers_at}
 use Rattle.flow_runner.proofs.Crews.{has-kept}
 use Rattle.flow_runner.proofs.Served.{each-worker, same-count, served-as, served-new}
-use Rattle.flow_runner.proofs.Crossing.{budget-sync, floor-sync, line-sync, server-send}
+use Rattle.flow_runner.proofs.Crossing.{budget-sync, floor-sync, lines-sync, server-send}
 use Rattle.flow_runner.proofs.together.serve_all.Goals as goal
 
 pub returns-clause-crew : goal.returns-clause-crew
@@ -29,4 +29,4 @@ pub for_each_mut-requires-send-T : goal.for_each_mut-requires-send-T
 for_each_mut-requires-send-T g c κs within = search (sendable, server-send) depth 20
 
 pub for_each_mut-requires-sync-F : goal.for_each_mut-requires-sync-F
-for_each_mut-requires-sync-F g c κs within = search (sendable, floor-sync, line-sync, budget-sync) depth 20
+for_each_mut-requires-sync-F g c κs within = search (sendable, floor-sync, lines-sync, budget-sync) depth 20

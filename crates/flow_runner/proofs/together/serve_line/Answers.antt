@@ -1,13 +1,14 @@
 use Rattle.std.proofs.Common.{◌∙◌, All, length, rules, sym, ap, subst}
 use Rattle.flow_floor.specs.Floors.{IsCrewOf, IsNewWorker}
-use Rattle.flow_runner.specs.Serving.{HasDone, IsAtLine, workers_at}
+use Rattle.flow_runner.specs.Posts.{posts_of, IsAtPosts}
+use Rattle.flow_runner.specs.Serving.{HasDone, workers_at}
 use Rattle.flow_runner.proofs.Crews.{written}
 use Rattle.flow_runner.proofs.Served.{each-at, same-count}
 use Rattle.flow_runner.proofs.together.serve_line.Goals as goal
 
 pub serve_all-requires-clause-each : goal.serve_all-requires-clause-each
 serve_all-requires-clause-each g c κs within = let f = c.args.floor.now in let ss = c.with_passes-servers.result.items in let e = c.with_passes-servers.ensures in
-    subst (All (IsAtLine f c.in-Ok.laid.line)) (sym c.as_mut_slice.ensures.value) (each-at f c.in-Ok.laid.line ss (subst (IsCrewOf f) (sym e.workers) c.requires.crew.0).0 e.passes)
+    subst (All (IsAtPosts f (posts_of c.in-Ok.laid.lines))) (sym c.as_mut_slice.ensures.value) (each-at f (posts_of c.in-Ok.laid.lines) ss (subst (IsCrewOf f) (sym e.workers) c.requires.crew.0).0 e.posted)
 
 pub serve_all-requires-clause-crew : goal.serve_all-requires-clause-crew
 serve_all-requires-clause-crew g c κs within = subst (IsCrewOf c.args.floor.now) (sym (ap workers_at c.as_mut_slice.ensures.value ∙ c.with_passes-servers.ensures.workers)) c.requires.crew.0

@@ -3,9 +3,10 @@ use Rattle.std.specs.declared.alloc.Global.{Global}
 use Rattle.std.specs.Prelude.{slice_get}
 use mathlib.Core.List.{append-nil}
 use Rattle.std.proofs.lemmas.List.{map-append, take_all}
-use Rattle.flow_cli.specs.Many.{output_of}
-use Rattle.flow_cli.specs.declared.many.Output.{Output}
-use Rattle.flow_cli.specs.Runs.{bytes_at, outputs_from}
+use Rattle.flow_load.specs.Many.{output_of}
+use Rattle.flow_load.specs.declared.many.Output.{Output}
+use Rattle.flow_cli.specs.Leaves.{bytes_at}
+use Rattle.flow_load.specs.Runs.{outputs_from}
 use Rattle.flow_cli.proofs.Written.{one-more, no-output, one-output}
 use Rattle.flow_cli.proofs.outputs.Ran+LiveNet+P.outputs.Goals as goal
 use Rattle.flow_cli.proofs.outputs.Ran+LiveNet+P.outputs.Goals.{in-None, in-Some+in_ok-push-in-Some}

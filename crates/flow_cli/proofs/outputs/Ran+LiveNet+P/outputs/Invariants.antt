@@ -1,6 +1,7 @@
 use Rattle.std.proofs.Common.{◌≡◌, map, take}
-use Rattle.flow_cli.specs.Many.{output_of}
-use Rattle.flow_cli.specs.Runs.{bytes_at, outputs_from}
+use Rattle.flow_load.specs.Many.{output_of}
+use Rattle.flow_cli.specs.Leaves.{bytes_at}
+use Rattle.flow_load.specs.Runs.{outputs_from}
 use Rattle.flow_cli.proofs.outputs.Ran+LiveNet+P.outputs.Given as goal
 
 abbrev pub invariant-loop-process : goal.invariant-loop-process

@@ -1,4 +1,4 @@
-use Rattle.std.proofs.Common.{◌≡◌, ℕ, List, length, None, IsSome, true, false, subst, sym, ap, ◌∙◌}
+use Rattle.std.proofs.Common.{◌≡◌, ℕ, List, length, None, IsSome, true, false, subst, sym, ◌∙◌}
 use Rattle.std.proofs.lemmas.Bool.{false≢true}
 use Rattle.regex_dfa.specs.Search.{end_from}
 use Rattle.regex_dfa.specs.declared.dfa.Dfa.{Dfa}

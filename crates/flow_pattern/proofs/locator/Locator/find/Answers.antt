@@ -1,6 +1,6 @@
 use Rattle.std.proofs.Common.{◌≡◌, ℕ, List, length, Some, None, option_map, refl, sym, subst, ◌∙◌}
 use Rattle.regex.specs.Patterns.{find, span}
-use Rattle.regex_dfa.specs.Search.{end_from, IsLeast}
+use Rattle.regex_dfa.specs.Search.{end_from}
 use Rattle.regex_dfa.specs.declared.dfa.Dfa.{Dfa}
 use Rattle.regex_meta.proofs.ProgramLemmas.{span_from_least}
 use Rattle.flow_pattern.specs.Pattern.{expression}

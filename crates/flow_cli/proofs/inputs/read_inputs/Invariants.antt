@@ -1,6 +1,0 @@
-use Rattle.flow_cli.specs.Components.{contents_of}
-use Rattle.flow_cli.proofs.Parting.{SoFar}
-use Rattle.flow_cli.proofs.inputs.read_inputs.Given as goal
-
-abbrev pub invariant-loop-process : goal.invariant-loop-process
-invariant-loop-process g l = SoFar (g.F.Edge.outside l.fn.shelf) (g.F.Edge.outside l.shelf) l.fn.plan l.process (contents_of l.given.items)

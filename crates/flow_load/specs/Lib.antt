@@ -1,0 +1,15 @@
+pub mod Causes
+pub mod Components
+pub mod Front
+pub mod Made
+pub mod MadeJobs
+pub mod Many
+pub mod Networks
+pub mod Offers
+pub mod Prepare
+pub mod Reads
+pub mod Runs
+pub mod Statuses
+pub mod Step
+pub mod Stops
+pub mod Valid

@@ -1,0 +1,123 @@
+//! Rows of trials that stand in files: each makes calls over files in memory, and says what has to come of them. The
+//! files are named by the program's words, and lie in `data/`, beside each other by subject; `docs/ROWS.md` has their
+//! format. The program prints how many rows of each file passed, and for each row that differs what was wanted and what
+//! came. It is a trial's helper, and promises nobody anything; each of its functions is proved: it is safe, and it ends.
+#![tactic(auto)]
+
+mod around;
+mod bytes;
+mod calls;
+mod came;
+mod page;
+mod said;
+mod shown;
+mod stage;
+mod wants;
+
+use crate::page::{Page, Step};
+use crate::stage::Stage;
+use std::alloc::{AllocError, Global};
+use std::process::ExitCode;
+use std::rt::{Env, Files};
+use std::sync::Wait;
+use std::thread::Threads;
+use std::{env, fs, io};
+
+/// The status where a row differs.
+const DIFFERS: u8 = 1;
+
+/// The status where a file of rows can't be read or a line printed, or where there is no memory.
+const STOPPED: u8 = 2;
+
+/// How many rows there are, and how many of them passed.
+#[derive(Clone, Copy)]
+struct Count {
+    rows: u64,
+    passed: u64,
+}
+
+impl Count {
+    const NONE: Count = Count { rows: 0, passed: 0 };
+
+    fn add(&mut self, more: Count) {
+        self.rows = self.rows.saturating_add(more.rows);
+        self.passed = self.passed.saturating_add(more.passed);
+    }
+}
+
+/// What differs in a row, line by line, and nothing where all is as it is wanted.
+fn differences<R: Threads + Wait + Sync>(
+    rt: &R,
+    alloc: Global,
+    common: &[Step],
+    steps: &[Step],
+) -> Result<String, AllocError> {
+    let mut stage = Stage::new(alloc);
+    for step in common {
+        stage.follow(rt, step)?;
+    }
+    for step in steps {
+        stage.follow(rt, step)?;
+    }
+    stage.told()
+}
+
+/// Goes through the rows of a file, and tells of each that differs.
+fn run_page<R: Print + Threads + Wait + Sync>(
+    rt: &R,
+    alloc: Global,
+    name: &str,
+    page: &Page,
+) -> io::Result<Count> {
+    let mut count = Count::NONE;
+    for row in &page.rows {
+        let told = differences(rt, alloc, &page.common, &row.steps)?;
+        let passed = if told.is_empty() { 1 } else { 0 };
+        count.add(Count { rows: 1, passed });
+        if !told.is_empty() {
+            print!(rt; "{name}: {}\n{told}", row.name)?;
+        }
+    }
+    Ok(count)
+}
+
+/// Goes through the files that are named.
+fn run_pages<R: Print + Files + AllocGlobal + Threads + Wait + Sync>(
+    rt: &R,
+    names: &[String],
+) -> io::Result<Count> {
+    let mut count = Count::NONE;
+    for name in names {
+        let text = fs::read_to_string(rt, name.as_str())?;
+        let page = Page::of(rt.alloc(), &text)?;
+        let of_page = run_page(rt, rt.alloc(), name, &page)?;
+        let Count { rows, passed } = of_page;
+        println!(rt; "{name}: {passed} of {rows} rows")?;
+        count.add(of_page);
+    }
+    let Count { rows, passed } = count;
+    println!(rt; "{passed} of {rows} rows passed")?;
+    Ok(count)
+}
+
+/// The words after the program's name.
+fn words_of(alloc: Global, args: env::Args) -> Result<Vec<String>, AllocError> {
+    let mut words = Vec::new(alloc);
+    for word in args.skip(1) {
+        words.push(word)?;
+    }
+    Ok(words)
+}
+
+fn run<R: Env + Print + Files + AllocGlobal + Threads + Wait + Sync>(rt: &R) -> io::Result<Count> {
+    let names = words_of(rt.alloc(), env::args(rt)?)?;
+    run_pages(rt, &names)
+}
+
+fn main(rt: HostRuntime) -> ExitCode {
+    match run(&rt) {
+        Ok(count) if count.rows == count.passed => ExitCode::SUCCESS,
+        Ok(_) => ExitCode::from(DIFFERS),
+        Err(_) => ExitCode::from(STOPPED),
+    }
+}

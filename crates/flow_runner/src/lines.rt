@@ -1,0 +1,155 @@
+//! The lines of a run: one for each worker.
+ghost use Rattle.std.specs.Prelude.{◌≡◌};
+
+use crate::line::Line;
+use crate::rest::Bell;
+use crossbeam_utils::CachePadded;
+use std::sync::atomic::{AtomicU64, Ordering};
+
+/// The beat of a worker that serves no more.
+pub(crate) const GONE: u64 = u64::MAX;
+
+/// What a worker tells those who rest, and what they tell it.
+#[derive(Drop)]
+pub(crate) struct Told {
+    beat: AtomicU64,
+    turns: AtomicU64,
+    burst: AtomicU64,
+}
+
+impl Told {
+    fn new() -> Told {
+        Told {
+            beat: AtomicU64::new(0),
+            turns: AtomicU64::new(0),
+            burst: AtomicU64::new(0),
+        }
+    }
+}
+
+/// A worker's line, and how far the worker has come: its *beat* is twice the number of processes that it took, and one more
+/// while it is at work.
+#[derive(Drop)]
+pub(crate) struct Post {
+    pub(crate) line: Line,
+    told: CachePadded<Told>,
+}
+
+impl Post {
+    pub(crate) fn new(line: Line) -> Post
+        ensures { result.line ≡ line }
+    {
+        Post {
+            line,
+            told: CachePadded::new(Told::new()),
+        }
+    }
+
+    pub(crate) fn beat(&self) -> u64 {
+        self.told.beat.load(Ordering::SeqCst)
+    }
+
+    pub(crate) fn set_beat(&self, beat: u64) {
+        self.told.beat.store(beat, Ordering::SeqCst);
+    }
+
+    /// How many turns the worker made.
+    pub(crate) fn turns(&self) -> u64 {
+        self.told.turns.load(Ordering::SeqCst)
+    }
+
+    pub(crate) fn set_turns(&self, turns: u64) {
+        self.told.turns.store(turns, Ordering::SeqCst);
+    }
+
+    /// How many turns its bursts should have; 0 where it wasn't told anything new.
+    pub(crate) fn burst(&self) -> u64 {
+        self.told.burst.load(Ordering::SeqCst)
+    }
+
+    pub(crate) fn set_burst(&self, turns: u64) {
+        self.told.burst.store(turns, Ordering::SeqCst);
+    }
+}
+
+/// What all workers have in common beside their lines.
+#[derive(Drop)]
+pub(crate) struct Common {
+    /// How many processes may still be taken from the lines of others.
+    helps: AtomicU64,
+    /// The number of the one who judges whether to help, and one more; or 0.
+    lookout: AtomicU64,
+}
+
+/// The posts of all workers.
+#[derive(Drop)]
+pub(crate) struct Lines {
+    pub(crate) posts: Vec<Post>,
+    common: CachePadded<Common>,
+    /// Ends the sleeps of those who found nothing.
+    pub(crate) bell: Bell,
+}
+
+impl Lines {
+    pub(crate) fn new(posts: Vec<Post>) -> Lines
+        ensures { result.posts ≡ posts }
+    {
+        Lines {
+            posts,
+            common: CachePadded::new(Common {
+                helps: AtomicU64::new(0),
+                lookout: AtomicU64::new(0),
+            }),
+            bell: Bell::new(),
+        }
+    }
+
+    pub(crate) fn may_help(&self) -> bool {
+        let left = self.common.helps.load(Ordering::SeqCst);
+        // One more may have been taken than there were.
+        left > 0 && left <= u64::MAX / 2
+    }
+
+    pub(crate) fn helped(&self) {
+        self.common.helps.fetch_sub(1, Ordering::SeqCst);
+    }
+
+    /// So many processes may be taken from others; where there are any, all who rest are called.
+    pub(crate) fn set_helps(&self, helps: u64) {
+        self.common.helps.store(helps, Ordering::SeqCst);
+        if helps > 0 {
+            self.bell.call_all();
+        }
+    }
+
+    /// Calls one who rests, where others may be helped.
+    pub(crate) fn call(&self) {
+        if self.may_help() {
+            self.bell.call();
+        }
+    }
+
+    /// Whether this worker is the lookout, which it becomes where nobody is.
+    pub(crate) fn looks_out(&self, number: u64) -> bool {
+        let lookout = self.common.lookout.load(Ordering::SeqCst);
+        if lookout != 0 {
+            return lookout == number.wrapping_add(1);
+        }
+        self.common
+            .lookout
+            .compare_exchange(
+                0,
+                number.wrapping_add(1),
+                Ordering::SeqCst,
+                Ordering::SeqCst,
+            )
+            .is_ok()
+    }
+
+    /// This worker, which has work, is no lookout.
+    pub(crate) fn stops_looking(&self, number: u64) {
+        if self.common.lookout.load(Ordering::SeqCst) == number.wrapping_add(1) {
+            self.common.lookout.store(0, Ordering::SeqCst);
+        }
+    }
+}

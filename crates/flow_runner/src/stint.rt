@@ -1,0 +1,104 @@
+//! How a worker goes on with the process that it holds.
+ghost use Rattle.flow_runner.specs.Posts.{posts_of};
+ghost use Rattle.std.specs.Prelude.{◌≡◌, ◌+◌, ◌<◌, ◌≤◌, length};
+
+use crate::lines::{Lines, Post};
+use crate::tuned::{BURST_LIMIT, BURSTS_OF_A_LENGTH, CALLS_UP_TO};
+
+/// Where a worker that isn't alone tells how many turns it made, and is told how many of them its bursts should have.
+#[derive(Clone, Copy)]
+pub(crate) struct Home<'a> {
+    post: &'a Post,
+    lines: &'a Lines,
+}
+
+/// The turns that a worker may still make, and how many of them in one burst.
+#[derive(Drop)]
+pub(crate) struct Stint<'a> {
+    pub(crate) left: u64,
+    /// How many turns a burst has at most.
+    pub(crate) burst: u32,
+    /// How many bursts of that length there were.
+    bursts: u32,
+    /// How many turns were made.
+    turns: u64,
+    home: Option<Home<'a>>,
+    pub ghost least: { 1 ≤ burst },
+}
+
+impl<'a> Stint<'a> {
+    /// A worker that nobody tells anything: so many turns, in bursts that are as long as can be.
+    pub(crate) fn alone(left: u64) -> Stint<'a>
+        ensures { result.left ≡ left }
+    {
+        Stint {
+            left,
+            burst: BURST_LIMIT,
+            bursts: 0,
+            turns: 0,
+            home: None,
+        }
+    }
+
+    /// A worker at the post of this number, where there are several: its bursts are short until it knows more.
+    pub(crate) fn among(left: u64, lines: &'a Lines, number: usize) -> Stint<'a>
+        requires { number < length (posts_of lines.now) }
+        ensures { result.left ≡ left }
+    {
+        if lines.posts.len() < 2 {
+            return Stint::alone(left);
+        }
+        let post = &lines.posts[number];
+        Stint {
+            left,
+            burst: 1,
+            bursts: 0,
+            turns: 0,
+            home: Some(Home { post, lines }),
+        }
+    }
+
+    /// How many turns the next burst may have.
+    pub(crate) fn next(&self) -> u32
+        requires { 1 ≤ self.now.left }
+        ensures least { 1 ≤ result }
+        ensures most { result ≤ self.now.left }
+    {
+        self.left.min(self.burst as u64) as u32
+    }
+
+    /// How long bursts are from now on: as was told, or twice as long as before, where nobody rests who could tell, and that was so for a while.
+    fn hears(&mut self, home: Home<'a>)
+        ensures { self.new.left ≡ self.old.left }
+    {
+        let told = home.post.burst();
+        if told > 0 {
+            home.post.set_burst(0);
+            self.burst = told.min(BURST_LIMIT as u64) as u32;
+            self.bursts = 0;
+            return;
+        }
+        self.bursts = self.bursts.saturating_add(1);
+        if self.bursts >= BURSTS_OF_A_LENGTH && !home.lines.bell.somebody_sleeps() {
+            self.burst = self.burst.saturating_mul(2).min(BURST_LIMIT);
+            self.bursts = 0;
+        }
+    }
+
+    /// So many turns were made in a burst; and by it somebody was pushed, or nobody. Where turns are long, one who rests is called to those.
+    pub(crate) fn made(&mut self, count: u32, pushed: bool)
+        requires { count ≤ self.old.left }
+        ensures { self.new.left + count ≡ self.old.left }
+    {
+        self.left -= count as u64;
+        let Some(home) = self.home else {
+            return;
+        };
+        self.turns = self.turns.wrapping_add(count as u64);
+        home.post.set_turns(self.turns);
+        if pushed && self.burst <= CALLS_UP_TO {
+            home.lines.call();
+        }
+        self.hears(home);
+    }
+}
