@@ -2,13 +2,14 @@
 
 use flow_pattern::{Finder, Replacer, Rewritten, is_pattern, slip_in};
 use std::alloc::{AllocError, Global};
+use std::process::Abort;
 use std::test::Fail;
 
-// The new text, where there is one and it isn't too long.
-fn text_of(rewritten: Result<Rewritten, AllocError>) -> Result<Option<Vec<u8>>, AllocError> {
-    match rewritten? {
-        Rewritten::New(text) => Ok(Some(text)),
-        _ => Ok(None),
+// Whether this is the new text.
+fn is_new(rewritten: &Rewritten, wanted: &[u8]) -> bool {
+    match rewritten {
+        Rewritten::New(text) => text.as_slice() == wanted,
+        _ => false,
     }
 }
 
@@ -17,27 +18,35 @@ fn repeated(alloc: Global, byte: u8, count: usize) -> Result<Vec<u8>, AllocError
     vec![in alloc; byte; count]
 }
 
+// What replaces each a.
+fn replacer(rt: &impl Abort, alloc: Global, with: &[u8]) -> Result<Replacer, AllocError> {
+    let is = is_pattern(alloc, b"a")?;
+    assert!(rt; is);
+    Replacer::new(alloc, b"a", with)
+}
+
 #[test]
 fn a_text_may_be_as_long_as_it_may(rt: HostRuntime) -> Result<(), Fail> {
-    let is = is_pattern(rt.alloc(), b"a")?;
-    assert!(rt; is);
-    let mut replacer = Replacer::new(rt.alloc(), b"a", b"12345")?;
-    let new = text_of(replacer.replaced(rt.alloc(), b"-aa-", 12))?;
-    let new = new.expect(&rt, "it has twelve bytes");
-    assert_eq!(rt; new.as_slice(), b"-1234512345-".as_slice());
-    let longer = replacer.replaced(rt.alloc(), b"-aa-", 11)?;
+    let mut replacer = replacer(&rt, rt.alloc(), b"12345")?;
+    let new = replacer
+        .replaced(rt.alloc(), b"-aa-", 12)
+        .expect(&rt, "no memory");
+    assert!(rt; is_new(&new, b"-1234512345-"));
+    let longer = replacer
+        .replaced(rt.alloc(), b"-aa-", 11)
+        .expect(&rt, "no memory");
     assert!(rt; matches!(longer, Rewritten::TooLong(12)));
     Ok(())
 }
 
 #[test]
 fn of_a_longer_text_the_bytes_are_counted(rt: HostRuntime) -> Result<(), Fail> {
-    let text = repeated(rt.alloc(), b'a', 1000)?;
-    let with = repeated(rt.alloc(), b'y', 1_000_000)?;
-    let is = is_pattern(rt.alloc(), b"a")?;
-    assert!(rt; is);
-    let mut replacer = Replacer::new(rt.alloc(), b"a", &with)?;
-    let longer = replacer.replaced(rt.alloc(), &text, 1_048_576)?;
+    let text = repeated(rt.alloc(), b'a', 1000).expect(&rt, "no memory");
+    let with = repeated(rt.alloc(), b'y', 1_000_000).expect(&rt, "no memory");
+    let mut replacer = replacer(&rt, rt.alloc(), &with).expect(&rt, "no memory");
+    let longer = replacer
+        .replaced(rt.alloc(), &text, 1_048_576)
+        .expect(&rt, "no memory");
     assert!(rt; matches!(longer, Rewritten::TooLong(1_000_000_000)));
     Ok(())
 }
@@ -50,8 +59,8 @@ fn a_pattern_has_at_most_65536_bytes(rt: HostRuntime) -> Result<(), Fail> {
     assert!(rt; !is_pattern(rt.alloc(), &longer)?);
     let slip = slip_in(rt.alloc(), &longer)?;
     let slip = slip.expect(&rt, "it is too long");
-    assert_eq!(rt; slip.place, 65_536);
-    assert_eq!(rt; slip.why, "a pattern has at most 65,536 bytes");
+    assert!(rt; slip.place == 65_536);
+    assert!(rt; slip.why == "a pattern has at most 65,536 bytes");
     Ok(())
 }
 
@@ -74,6 +83,13 @@ fn has_both(text: &[u8]) -> bool {
         .any(|part| part[0] == b'a' && part[20] == b'b')
 }
 
+// Whether it is found in the lines that are made from a number just where it stands.
+fn is_found(alloc: Global, finder: &mut Finder, number: u64) -> Result<bool, AllocError> {
+    let text = lines_of_two(alloc, number, 22 + (number % 9) as usize)?;
+    let found = finder.matches(alloc, &text)?;
+    Ok(found == has_both(&text))
+}
+
 // Its automaton would have a million states, so that it gives up; what is found is the same from then on.
 #[test]
 fn a_pattern_is_found_by_steps(rt: HostRuntime) -> Result<(), Fail> {
@@ -82,9 +98,7 @@ fn a_pattern_is_found_by_steps(rt: HostRuntime) -> Result<(), Fail> {
     assert!(rt; is);
     let mut finder = Finder::new(rt.alloc(), pattern)?;
     for number in 0..3000 {
-        let text = lines_of_two(rt.alloc(), number, 22 + (number % 9) as usize)?;
-        let found = finder.matches(rt.alloc(), &text)?;
-        assert_eq!(rt; found, has_both(&text));
+        assert!(rt; is_found(rt.alloc(), &mut finder, number)?, "of {number}");
     }
     Ok(())
 }
