@@ -16,6 +16,8 @@ mod passers;
 #[cfg(test)]
 mod picks;
 #[cfg(test)]
+mod pieces;
+#[cfg(test)]
 mod readers;
 #[cfg(test)]
 mod standard;

@@ -9,8 +9,8 @@ use Rattle.flow_model.specs.Replaced.{with_component, replaced, OfEach, Mimics}
 use Rattle.flow_model.proofs.Replacing.{replaced-there, turn-replaced, settles-replaced, turn-back, settles-back}
 use Rattle.flow_played.proofs.Places.{replaced-length, still-replaced}
 
--- a turn that sees the exact length does so with another component
-exact-same : {K L : Type 0} (other : ℕ → K → L) (s : State K) (x : Process K) (c : L) (event : Event) → IsExact s.kept x event → IsExact (replaced other s).kept (with_component x c) event
+-- A turn that sees the exact length does so with another component.
+pub exact-same : {K L : Type 0} (other : ℕ → K → L) (s : State K) (x : Process K) (c : L) (event : Event) → IsExact s.kept x event → IsExact (replaced other s).kept (with_component x c) event
 exact-same other s x c (Learns port level) exact = exact
 exact-same other s x c event exact = tt
 

@@ -1,0 +1,9 @@
+pub mod ReadPieces
+pub mod ReadPiecesLaws
+pub mod WritePieces
+pub mod WritePiecesLaws
+pub mod Kept
+pub mod Fed
+pub mod FedLaws
+pub mod FedRoles
+pub mod Tended

@@ -1,0 +1,5 @@
+pub mod Fronts
+pub mod Mimicry
+pub mod Tending
+pub mod Steps
+pub mod Rounds

@@ -1,0 +1,5 @@
+pub mod Whole
+pub mod Rounds
+pub mod Steps
+pub mod FedSteps
+pub mod Standard
