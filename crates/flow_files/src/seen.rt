@@ -62,10 +62,12 @@ const GROUP_READS: u32 = 0o040;
 /// The bit by which everybody may read.
 const ALL_READ: u32 = 0o004;
 
-/// Whether a mode tells who may read the file. Where a file has an access list, the group's bits of its mode are but a
-/// bound on what the list gives; where everybody may read it anyway, that is of no matter.
+/// Whether a mode tells who may read the file, also where another file with this mode gets another owner and group.
+/// Where a file has an access list, the group's bits of its mode are but a bound on what the list gives; where everybody
+/// may read it anyway, that is of no matter. And whom a mode refuses as a member of the group is one of all in a file of
+/// another group.
 pub fn is_told(mode: u32) -> bool
     ensures { IsTrue result ↔ IsTold mode }
 {
-    mode & GROUP_READS == 0 || mode & ALL_READ != 0
+    (mode & GROUP_READS != 0) == (mode & ALL_READ != 0)
 }
