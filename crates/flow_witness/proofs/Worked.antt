@@ -11,6 +11,8 @@ use Rattle.flow_net.specs.Over.{IsOver}
 use Rattle.flow_words.specs.Words.{AskedRun, Run, Check, Judge, Replay, run_of}
 use Rattle.flow_parse.specs.Canonical.{canonical}
 use Rattle.flow_model.specs.Laws.{KeepsPrefixes}
+use Rattle.flow_model.specs.States.{Process as StateProcess}
+use Rattle.flow_model.proofs.Replacing.{replaced-from}
 use Rattle.flow_model.specs.Ready.{StartsPlans, ComponentsFit}
 use Rattle.flow_catalogue.specs.declared.standard.Std.{Std}
 use Rattle.flow_catalogue.specs.declared.table.StdKind.TheVariants as kinds
@@ -24,7 +26,7 @@ use Rattle.flow_journal.specs.Runs.{IsScheduled}
 use Rattle.flow_journal.specs.declared.merge.Journal.{Journal}
 use Rattle.flow_own.specs.Mixed.{Other}
 use Rattle.flow_tape.specs.Files.{IsWritable as IsTapesWritable}
-use Rattle.flow_played.specs.Others.{others, as_mixed}
+use Rattle.flow_played.specs.Others.{others, as_mixed, other_at}
 use Rattle.flow_played.specs.Plain.{AllRunAsTheyAre, TellsAsItIs}
 use Rattle.flow_offer.specs.Kinds.{AreOwnKinds}
 use Rattle.flow_offer.specs.Processes.{IsOfferedPlan}
@@ -34,7 +36,7 @@ use Rattle.flow_load.specs.Step.{Filled, whole, IsRead}
 use Rattle.flow_load.specs.Offers.{AnyKind, Recorded, Taped, net_rules}
 use Rattle.flow_load.specs.Components.{AreComponents, IsComponent, IsPlayedComponent}
 use Rattle.flow_load.specs.Many.{replaced_all}
-use Rattle.flow_load.specs.Runs.{kept_files}
+use Rattle.flow_load.specs.Runs.{IsPlayedOut, kept_files}
 use Rattle.flow_load.specs.Reads.{IsFile, IsJournalFile, IsReady}
 use Rattle.flow_cli.specs.Top.{Call, answer}
 use Rattle.flow_load.proofs.NoKinds.{none-own}
@@ -322,6 +324,9 @@ module _ (starts : StartsPlans std_rules) (prefixes : KeepsPrefixes std_rules) (
             are_components = any_are;
             run = ((plain balance balance_components).runs workers (schedule_of balance_journal) balance_last).0
                 (record { schedule = scheduled; quiet = balance_quiet; robin = λ none. balance_robin });
+            played_out = λ p x there.
+                let from = replaced-from other_at balance_last.kept.processes p x there in
+                subst (λ (y : StateProcess AnyKind). IsPlayedOut y.component) from.2 tt;
             writable = is_file.writable;
             tapes_writable = no_tapes;
           };
