@@ -214,15 +214,15 @@ no_tapes = record { few = omega arith; each = λ k tape there. absurd cc }
 undetermined : IsDeterminate balance → ⊥
 undetermined is = is.no_balance 1 balancer refl refl
 
-checks : CanMeet (Check (codes "net")) (network_file ∷ [])
+checks : CanMeet [] held_files (Check (codes "net")) (network_file ∷ [])
 checks words asks = record {
   call = call_of words (after (codes "net") (network_file ∷ [])) none_made (canonical balance_value);
   words_are = refl;
-  none_own = refl;
+  own_is = refl;
   shelf = refl;
   opened = refl;
   faults = record { reads = λ rose. omega (arith, rose); writes = λ rose. omega (arith, rose); prints = λ rose. omega (arith, rose) };
-  valid = call_valid words (Check (codes "net")) (network_file ∷ []) (call_of words (after (codes "net") (network_file ∷ [])) none_made (canonical balance_value)).work refl refl refl refl asks refl (check_valid words (Check (codes "net")) asks refl);
+  valid = call_valid [] words (Check (codes "net")) (network_file ∷ []) (call_of words (after (codes "net") (network_file ∷ [])) none_made (canonical balance_value)).work refl refl refl refl asks refl (check_valid words (Check (codes "net")) asks refl);
   ends = inr (record {
     text = canonical balance_value;
     says = inl (record { name = codes "net"; asks = asks; value = balance_value; checked = record { net = network_bytes; plan = balance; file = net_is; shelf = refl; nothing = ((refl, refl), refl) }; text_is = refl; status_is = refl });
@@ -230,15 +230,15 @@ checks words asks = record {
   });
 }
 
-judges : CanMeet (Judge (codes "net")) (network_file ∷ [])
+judges : CanMeet [] held_files (Judge (codes "net")) (network_file ∷ [])
 judges words asks = record {
   call = call_of words (after (codes "net") (network_file ∷ [])) none_made (answer false);
   words_are = refl;
-  none_own = refl;
+  own_is = refl;
   shelf = refl;
   opened = refl;
   faults = record { reads = λ rose. omega (arith, rose); writes = λ rose. omega (arith, rose); prints = λ rose. omega (arith, rose) };
-  valid = call_valid words (Judge (codes "net")) (network_file ∷ []) (call_of words (after (codes "net") (network_file ∷ [])) none_made (answer false)).work refl refl refl refl asks refl (check_valid words (Judge (codes "net")) asks refl);
+  valid = call_valid [] words (Judge (codes "net")) (network_file ∷ []) (call_of words (after (codes "net") (network_file ∷ [])) none_made (answer false)).work refl refl refl refl asks refl (check_valid words (Judge (codes "net")) asks refl);
   ends = inr (record {
     text = answer false;
     says = inr (inr (inr (inl (record { name = codes "net"; asks = asks; value = balance_value; checked = record { net = network_bytes; plan = balance; file = net_is; shelf = refl; nothing = ((refl, refl), refl) }; text_is = inr (undetermined, refl); status_is = refl }))));
@@ -261,15 +261,15 @@ module _ (starts : StartsPlans std_rules) (prefixes : KeepsPrefixes std_rules) (
   any_told : TellsOf balance (as_mixed balance_last) balance_report
   any_told = ((alike balance_last).reports balance balance_report).0 balance_told
 
-  replays : CanMeet (Replay (codes "net") (codes "j") None) replayed
+  replays : CanMeet [] held_files (Replay (codes "net") (codes "j") None) replayed
   replays words asks = record {
     call = call_of words (after (codes "x") replayed) balance_journal (report_text balance_report);
     words_are = refl;
-    none_own = refl;
+    own_is = refl;
     shelf = refl;
     opened = refl;
     faults = record { reads = λ rose. omega (arith, rose); writes = λ rose. omega (arith, rose); prints = λ rose. omega (arith, rose) };
-    valid = call_valid words (Replay (codes "net") (codes "j") None) replayed (call_of words (after (codes "x") replayed) balance_journal (report_text balance_report)).work refl refl refl refl asks refl (replay_valid plain single words asks);
+    valid = call_valid [] words (Replay (codes "net") (codes "j") None) replayed (call_of words (after (codes "x") replayed) balance_journal (report_text balance_report)).work refl refl refl refl asks refl (replay_valid plain single words asks);
     ends = inr (record {
       text = report_text balance_report;
       says = inr (inl (record {
@@ -299,15 +299,15 @@ module _ (starts : StartsPlans std_rules) (prefixes : KeepsPrefixes std_rules) (
     });
   }
 
-  runs : (kept tapes : Option Name) (workers : ℕ) → CanMeet (run_of (run_with kept tapes workers)) ran
+  runs : (kept tapes : Option Name) (workers : ℕ) → CanMeet [] held_files (run_of (run_with kept tapes workers)) ran
   runs kept tapes workers words asks = record {
     call = call_of words (after_run (run_with kept tapes workers)) balance_journal (report_text balance_report);
     words_are = refl;
-    none_own = refl;
+    own_is = refl;
     shelf = refl;
     opened = refl;
     faults = record { reads = λ rose. omega (arith, rose); writes = λ rose. omega (arith, rose); prints = λ rose. omega (arith, rose) };
-    valid = call_valid words (Run (codes "net") kept tapes workers) ran (call_of words (after_run (run_with kept tapes workers)) balance_journal (report_text balance_report)).work refl refl refl refl asks refl (run_valid words (Run (codes "net") kept tapes workers) asks refl);
+    valid = call_valid [] words (Run (codes "net") kept tapes workers) ran (call_of words (after_run (run_with kept tapes workers)) balance_journal (report_text balance_report)).work refl refl refl refl asks refl (run_valid words (Run (codes "net") kept tapes workers) asks refl);
     ends = inl (
       run_with kept tapes workers,
       asks,
