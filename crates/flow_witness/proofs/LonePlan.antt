@@ -264,7 +264,6 @@ player-is : (bytes : List ℕ) (tape : Taped) (component : AnyKind) → IsPlayed
 player-is bytes tape (Other component) is = absurd (not-standard is.made.kind (sym (ap (λ (x : Process). x.kind) (process_is is.process lone_process (sym is.there))) ∙ is.made.named))
 player-is bytes tape (Own value) is = ap Own (is.1 ∙ ap (λ (x : Process). player_at lone 0 x tape) (process_is is.0.process lone_process (sym is.0.there)))
 
-
 -- The components of the network are this one, where the tape is this.
 pub only-component : (given : List (List ℕ)) (tapes : List Taped) (ks : List AnyKind) → lone_tape ∷ [] ≡ tapes → AreComponents own_kinds lone given tapes ks → ks ≡ playing ∷ []
 only-component given tapes (k ∷ []) same are =

@@ -56,6 +56,9 @@ fn stamps_are_one_for_all(rt: HostRuntime) {
     makes(&rt, &floor, &mut second, &mut writer, 2);
     hands_back(&floor, &mut second, writer);
     let journal = merged(&rt, rt.alloc(), floor, first, second, rooms);
-    assert_eq!(&rt; journal.turns.as_slice(), [READ as u8, READ as u8, WRITE as u8].as_slice());
+    assert_eq!(&rt;
+        journal.turns.as_slice(),
+        [READ as u8, READ as u8, WRITE as u8].as_slice()
+    );
     assert!(&rt; journal.seen.is_empty());
 }
