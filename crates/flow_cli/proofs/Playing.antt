@@ -16,6 +16,7 @@ use Rattle.flow_own.specs.Tapes.{OwnValue}
 use Rattle.flow_model.specs.States.{Process, State}
 use Rattle.flow_model.specs.Plans.{process_at_start, processes_at_start, start_of, StartsWell}
 use Rattle.flow_model.specs.Replaced.{with_component, OfEach}
+use Rattle.flow_model.proofs.Replacing.{replaced-from}
 use Rattle.flow_machine.specs.Values.{BodyValue, NetValue}
 use Rattle.flow_catalogue.specs.declared.standard.Std.{Std}
 use Rattle.flow_catalogue.specs.Std.{std_rules}
@@ -38,7 +39,7 @@ use Rattle.flow_cli.specs.Live.{AnyNet}
 use Rattle.flow_load.specs.Components.{AreComponents, AreLive, IsLiveComponent, IsPlayedComponent}
 use Rattle.flow_load.specs.Offers.{AnyKind, Taped, Recorded, known, live_rules}
 use Rattle.flow_cli.specs.Leaves.{AreTapesOfNet, IsJournalOfNet, IsRecordedAt, IsToldOf, IsToldOfNet, Leaves, tape_by}
-use Rattle.flow_load.specs.Runs.{bytes_in, written_in}
+use Rattle.flow_load.specs.Runs.{ArePlayedOut, IsPlayedOut, bytes_in, written_in}
 use Rattle.flow_cli.specs.Top.{recorded_by}
 use Rattle.flow_cli.specs.declared.ran.PrintedReport.{PrintedReport}
 use Rattle.flow_cli.specs.declared.ran.Ran.{Ran}
@@ -204,6 +205,16 @@ bytes-played laws by s p = at (slice_get s.kept.processes p) ∙ ap (λ (found :
 told-played : Players → (by : ℕ → Taped) (plan : Network) (s : State AnyKind) (told : PrintedReport) → IsToldOf plan s told → IsToldOf plan (played by s) told
 told-played laws by plan s told is = record { report = is.report; tells = laws.told by plan s is.report is.tells; verdict = is.verdict; text = is.text }
 
+-- Where the players are those of these tapes, each has played the whole of its own.
+played-out : (by : ℕ → Taped) (s : State AnyKind) → TapesOf by s → ArePlayedOut (played by s)
+played-out by s of p x there =
+    let from = replaced-from (played_by by) s.kept.processes p x there in
+    subst (λ (y : Process AnyKind). IsPlayedOut y.component) from.2 (ends from.0.component (of p from.0 from.1))
+  where
+    ends : (component : AnyKind) → HasTape by p component → IsPlayedOut (played_by by p component)
+    ends (Other component) has = tt
+    ends (Own value) has = ap (λ (tape : Taped). Some (length tape)) has.1
+
 -- parts at the start
 from-fresh : (component : AnyKind) → IsFresh component → IsPart component
 from-fresh (Other component) is = tt
@@ -237,6 +248,7 @@ leaves-one laws own workers plan given live net recorded told valid tell sees we
       are_components = are-players own plan given live by recorded.tapes taped.tapes_are are;
       last = played by last;
       run = laws.runs by workers plan (known live) (schedule_of recorded.journal) last well fresh_all of comes.run;
+      played_out = played-out by last of;
       told_is = told-played laws by plan last told (told-of live_rules plan net last told valid tell comes.fit comes.count reached is);
       wrote = λ p. bytes-same net.bodies last.kept.processes p procs ∙ bytes-played laws by last p;
       writable = has-file live_rules plan (known live) net recorded.journal last sees comes.run.schedule names;

@@ -1,5 +1,5 @@
 -- The order in which parts are taken.
-use Rattle.std.proofs.Common.{◌≡◌, ◌≢◌, ◌⊎◌, inl, inr, ℕ, ◌+◌, ◌<◌, Bool, true, false, List, [], ◌∷◌, ◌++◌, length, Some, None, refl, sym, ◌∙◌, ap, get_or, drop}
+use Rattle.std.proofs.Common.{◌≡◌, ◌≢◌, ◌⊎◌, inl, inr, ℕ, ◌+◌, ◌<◌, Bool, true, false, List, [], ◌∷◌, ◌++◌, length, Some, None, refl, sym, ◌∙◌, ap, arith, get_or, drop}
 use Rattle.std.proofs.lemmas.List.{map-append, map-set, get_or-set_same, get_or-set_other}
 use Rattle.std.proofs.lemmas.Option.{get_or_from_slice_get, slice_get-get_or, slice_get_within, slice_get-map}
 use Rattle.std.proofs.lemmas.Slice.Eq.{bytes_eq-Decides}
@@ -16,8 +16,11 @@ use Rattle.flow_plan.specs.declared.plan.Process.{Process}
 use Rattle.flow_plan.specs.Network.{Network}
 use Rattle.flow_offer.specs.Processes.{own_place, place_of}
 use Rattle.flow_offer.specs.Shares.{earlier}
-use Rattle.flow_load.specs.Offers.{parts_in, parts_left}
-use Rattle.flow_load.specs.Components.{AreInOrder, TakesFirst, part_for}
+use Rattle.flow_own.specs.Mixed.{Own}
+use Rattle.flow_own.specs.Parts.{Seen}
+use Rattle.flow_own.specs.Tapes.{OwnValue}
+use Rattle.flow_load.specs.Offers.{AnyKind, parts_in, parts_left}
+use Rattle.flow_load.specs.Components.{AreInOrder, HoldParts, HoldTheirParts, TakesFirst, TakesParts, part_for}
 use Rattle.flow_load.proofs.Parting.{pushed}
 use Rattle.flow_load.proofs.Placing.{next-left}
 use Rattle.flow_load.proofs.Sharing.{its-place, one-name, one-more, no-more}
@@ -124,3 +127,29 @@ pub queue-in-order : {P : Type 0} (queues : List (IntoIter P Global)) (yielded :
 queue-in-order {P = P} queues yielded kind queue same before =
     map-append (λ (x : IntoIter P Global). into_iter_items x) queues (queue ∷ []) ∙ ap (λ (l : List (List P)). l ++ into_iter_items queue ∷ []) before ∙ ap (λ (l : List P). parts_in yielded ++ l ∷ []) same
     ∙ sym (map-append (λ (v : Vec P Global). v.items) yielded (kind ∷ []))
+
+module _ {P : Type 0} (seen : P → Seen) (own : List KindSpec) (parts : List (List P)) (plan : Network) (taken : List (Option P)) (components : List AnyKind) (takes : TakesParts own plan taken)
+    (order : AreInOrder own parts plan taken) (held : HoldParts seen taken components) where
+  -- A process for which there is a part is of a kind of the caller's own.
+  has-kind : (p : ℕ) (part : P) (found : Option Process) → slice_get plan.processes p ≡ found
+      → option_and_then (λ (process : Process). option_and_then (λ place. slice_get (get_or parts place []) (earlier plan process.kind p)) (place_of own process.kind)) found ≡ Some part
+      → (p < length plan.processes) × (is_some (option_and_then (λ (process : Process). place_of own process.kind) found) ≡ true)
+  has-kind p part None at is = absurd cc
+  has-kind p part (Some x) at is = (slice_get_within plan.processes p x at, placed (place_of own x.kind) is) where
+    placed : (place : Option ℕ) → option_and_then (λ place. slice_get (get_or parts place []) (earlier plan x.kind p)) place ≡ Some part → is_some place ≡ true
+    placed None is = absurd cc
+    placed (Some place) is = refl
+
+  took : (p : ℕ) (part : P) (one : Option P) → slice_get taken p ≡ Some one → is_some (own_place own plan p) ≡ true → part_for own parts plan p ≡ Some part
+      → (value : OwnValue) × (slice_get components p ≡ Some (Own value)) × (value.part ≡ Some (seen part))
+  took p part None at is_own is = absurd (let none = takes.each p None at in cc)
+  took p part (Some other) at is_own is =
+      let same : other ≡ part = (let a = order p other at in cc) in
+      let has = held p other at in
+      (has.0, has.1, has.2 ∙ ap (λ (x : P). Some (seen x)) same)
+
+  -- Each process for which there is a part took it, and its component holds it.
+  pub hold-theirs : HoldTheirParts seen own parts plan components
+  hold-theirs p part is =
+      let placed = has-kind p part (slice_get plan.processes p) refl is in
+      took p part (get_or taken p None) (slice_get-get_or taken p None (omega (arith, takes.count, placed.0))) placed.1 is

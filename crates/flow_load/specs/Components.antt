@@ -152,6 +152,12 @@ HandsOut own counts plan (Err stop) = StopsHandingOut own counts plan stop
 abbrev pub HoldParts : {P : Type 0} → (P → Seen) → List (Option P) → List AnyKind → Type 0
 HoldParts {P = P} seen parts components = (p : ℕ) (part : P) → slice_get parts p ≡ Some (Some part) → (value : OwnValue) × (slice_get components p ≡ Some (Own value)) × (value.part ≡ Some (seen part))
 
+-- The component of each process for which there is a part is that part, as far as contracts see it, where these are the parts of each kind: those of one kind are with its
+-- processes in their order, from the first part on.
+abbrev pub HoldTheirParts : {P : Type 0} → (P → Seen) → List KindSpec → List (List P) → Network → List AnyKind → Type 0
+HoldTheirParts {P = P} seen own parts plan components =
+    (p : ℕ) (part : P) → part_for own parts plan p ≡ Some part → (value : OwnValue) × (slice_get components p ≡ Some (Own value)) × (value.part ≡ Some (seen part))
+
 -- The components are those of the plan's processes, in order, each of the caller's own a live part.
 pub record AreLive (own : List KindSpec) (plan : Network) (given : List (List ℕ)) (components : List AnyKind) : Type 0 where
   pub count : length components ≡ length plan.processes

@@ -22,6 +22,10 @@ pub record Offer : Type 0 where
 abbrev pub offers_of : {P : Type 0} → List (OwnKind P) → List Offer
 offers_of own = map (λ k. record { spec = k.spec; parts = length k.parts.items }) own
 
+-- The parts that a caller hands in, kind by kind, each kind's in order.
+abbrev pub handed_in : {P : Type 0} → List (OwnKind P) → List (List P)
+handed_in own = map (λ k. k.parts.items) own
+
 -- The caller's own kinds, in order.
 abbrev pub specs_of : List Offer → List KindSpec
 specs_of offers = map (λ (o : Offer). o.spec) offers

@@ -1,5 +1,5 @@
 -- What a call does before its network runs: the words, the network file, a journal's file, the input files.
-use Rattle.std.specs.Prelude.{◌≡◌, ◌≤◌, ℕ, List, [], ◌∷◌, map, Some, Ok, Err, Vec, String, string_bytes}
+use Rattle.std.specs.Prelude.{◌≡◌, ◌≤◌, ℕ, List, [], ◌∷◌, map, Some, Ok, Err, Vec, String, string_bytes, ⊤}
 use Rattle.std.specs.declared.option.Option.{Option}
 use Rattle.std.specs.declared.alloc.Global.{Global}
 use Rattle.std.specs.declared.result.Result.{Result}
@@ -10,11 +10,12 @@ use Rattle.flow_words.specs.Words.{AskedRun, run_of, run_by, Check, Judge, Repla
 use Rattle.flow_parse.specs.declared.value.NetText.{NetText}
 use Rattle.flow_journal.specs.declared.merge.Journal.{Journal}
 use Rattle.flow_plan.specs.declared.kind.KindSpec.{KindSpec}
+use Rattle.flow_own.specs.Parts.{Seen}
 use Rattle.flow_tape.specs.Faults.{IsFault as IsTapesFault}
 use Rattle.flow_tape.specs.declared.TheConstants.{TAPE_FILE_LIMIT}
 use Rattle.flow_load.specs.Step.{Filled, OnlyReads, FailsToRead, MayRead, Unended, IsRead, GivesMore, HoldsMore, whole}
 use Rattle.flow_load.specs.Offers.{AnyKind, Offer, Recorded, Taped, IsNothing, specs_of}
-use Rattle.flow_load.specs.Components.{AreComponents, AreLive}
+use Rattle.flow_load.specs.Components.{AreComponents, AreLive, HoldTheirParts}
 use Rattle.flow_load.specs.Reads.{Asks, IsCommand, IsFile, IsJournalFile, IsReady, AreTapes, ShowsFault}
 use Rattle.flow_load.specs.Causes.{Work, HasCause}
 use Rattle.flow_load.specs.declared.net_file.NetFile.{NetFile}
@@ -99,6 +100,11 @@ pub record AsksMake (old new : Outside) (words : List (String Global)) (number w
   pub most : number ≤ NUMBER_LIMIT
   pub few : workers ≤ WORKER_LIMIT
   pub shelf : new ≡ old
+
+-- The components of a network that is to run hold the parts of their processes, where these are the parts of each kind. Nothing else that may be to be done has parts.
+abbrev pub HoldsTheirParts : {P : Type 0} → (P → Seen) → List KindSpec → List (List P) → Task AnyKind → Type 0
+HoldsTheirParts seen own parts (tasks.Run job asked) = HoldTheirParts seen own parts job.plan job.components.items
+HoldsTheirParts seen own parts other = ⊤
 
 -- What the steps before a run, or before the printing of a check or a judge, do to the shelf.
 abbrev pub Prepares : List Offer → Outside → Outside → List (String Global) → Result (Task AnyKind) Stop → Type 0

@@ -1,5 +1,5 @@
 -- A run as it is asked for: its turns from the start of a network to the state in which no process can go on, and the files of that state and of the run.
-use Rattle.std.specs.Prelude.{◌+◌, ◌++◌, ℕ, List, [], ◌∷◌, Some, None, map, slice_get, unwrap_or, option_and_then}
+use Rattle.std.specs.Prelude.{◌≡◌, ◌+◌, ◌++◌, ℕ, List, [], ◌∷◌, Some, None, length, map, slice_get, unwrap_or, option_and_then}
 use Rattle.std.specs.declared.option.Option.{Option}
 use Rattle.flow_text.specs.Edge.{Name}
 use Rattle.flow_plan.specs.declared.plan.Process.{Process}
@@ -8,6 +8,7 @@ use Rattle.flow_catalogue.specs.Std.{written_of}
 use Rattle.flow_own.specs.Mixed.{Other, Own}
 use Rattle.flow_tape.specs.Files.{written as tapes_written}
 use Rattle.flow_words.specs.Words.{AskedRun}
+use Rattle.flow_model.specs.Replaced.{OfEach}
 use Rattle.flow_model.specs.States.{State}
 use Rattle.flow_journal.specs.Files.{written}
 use Rattle.flow_journal.specs.Replays.{schedule_of}
@@ -20,6 +21,15 @@ use Rattle.flow_load.specs.Components.{written_by}
 -- This is the journal of the run of a plan with these components by so many workers, of which none is one thread; and this the state to which it leads.
 abbrev pub RunsTo : ℕ → Network → List AnyKind → Journal → State AnyKind → Type 0
 RunsTo workers plan components journal last = IsRun net_rules workers plan components (schedule_of journal) last
+
+-- The component, if it is a player, stands behind the last entry of its tape.
+abbrev pub IsPlayedOut : AnyKind → Type 0
+IsPlayedOut (Other component) = Unit {0}
+IsPlayedOut (Own value) = value.place ≡ Some (length value.tape)
+
+-- So does each player of a state: nothing is on a tape that wasn't played.
+abbrev pub ArePlayedOut : State AnyKind → Type 0
+ArePlayedOut s = OfEach (λ p. IsPlayedOut) s
 
 -- The file that a process writes, with its bytes, if it writes one; where `wrote` says what each process wrote.
 abbrev pub outputs_at : (ℕ → List ℕ) → ℕ → Process → List Filled

@@ -1,10 +1,11 @@
 //! The steps before a network runs, or is checked or judged: the words, the network file, a journal's file and that of tapes, the input files.
-ghost use Rattle.std.specs.Prelude.{◌≡◌, length, List};
+ghost use Rattle.std.specs.Prelude.{◌≡◌, IfOk, length, List};
 ghost use Rattle.std.specs.Option.{option_map};
 ghost use Rattle.flow_words.specs.Words.{run_by};
 ghost use Rattle.flow_offer.specs.Kinds.{AreOwnKinds};
-ghost use Rattle.flow_load.specs.Offers.{AreOffered, Offer};
-ghost use Rattle.flow_load.specs.Prepare.{Loads, Prepares, ReadsAgain, ReadsRun};
+ghost use Rattle.flow_load.specs.Components.{HoldTheirParts};
+ghost use Rattle.flow_load.specs.Offers.{AreOffered, Offer, parts_in};
+ghost use Rattle.flow_load.specs.Prepare.{HoldsTheirParts, Loads, Prepares, ReadsAgain, ReadsRun};
 
 use crate::components::{live_components, played_components};
 use crate::inputs::read_inputs;
@@ -68,7 +69,8 @@ pub fn prepare<'a, F: Shelf, P: Part>(
 ) -> Result<Task<'a, Mixed<Std, P>>, Stop>
     requires kinds { AreOwnKinds kinds.now }
     requires parts { length parts.items ≡ length kinds.now }
-    ensures { (own : List Offer) → AreOffered own kinds.now parts.items → Prepares own (F.outside shelf.old) (F.outside shelf.new) words.entry.now result }
+    ensures prepares { (own : List Offer) → AreOffered own kinds.now parts.items → Prepares own (F.outside shelf.old) (F.outside shelf.new) words.entry.now result }
+    ensures parts { IfOk result (λ task. HoldsTheirParts P.seen kinds.now (parts_in parts.items) task) }
 {
     let asked = match command(alloc, words) {
         Ok(Some(asked)) => asked,
@@ -111,7 +113,8 @@ fn runnable<F: Shelf, P: Part>(
 ) -> Result<Job<Mixed<Std, P>>, Stop>
     requires kinds { AreOwnKinds kinds.now }
     requires parts { length parts.items ≡ length kinds.now }
-    ensures { (own : List Offer) → AreOffered own kinds.now parts.items → ReadsRun own (F.outside shelf.old) (F.outside shelf.new) (run_by asked.entry) result }
+    ensures reads { (own : List Offer) → AreOffered own kinds.now parts.items → ReadsRun own (F.outside shelf.old) (F.outside shelf.new) (run_by asked.entry) result }
+    ensures parts { IfOk result (λ job. HoldTheirParts P.seen kinds.now (parts_in parts.items) job.plan job.components.items) }
 {
     let plan = match load(alloc, shelf, asked.net, kinds) {
         Ok(file) => file.plan,

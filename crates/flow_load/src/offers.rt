@@ -1,6 +1,6 @@
 //! What a caller hands in of its own: kinds of components, with the parts that their processes take.
-ghost use Rattle.std.specs.Prelude.{IfOk};
-ghost use Rattle.flow_load.specs.Offers.{AreOffered, offers_of};
+ghost use Rattle.std.specs.Prelude.{◌≡◌, IfOk};
+ghost use Rattle.flow_load.specs.Offers.{AreOffered, handed_in, offers_of, parts_in};
 
 use flow_own::Part;
 use flow_plan::KindSpec;
@@ -19,7 +19,8 @@ pub fn kinds_and_parts<P: Part>(
     alloc: Global,
     own: Vec<OwnKind<P>>,
 ) -> Result<(Vec<KindSpec>, Vec<Vec<P>>), AllocError>
-    ensures { IfOk result (λ both. AreOffered (offers_of own.items) both.0.items both.1.items) }
+    ensures offered { IfOk result (λ both. AreOffered (offers_of own.items) both.0.items both.1.items) }
+    ensures parts { IfOk result (λ both. parts_in both.1.items ≡ handed_in own.items) }
 {
     let mut kinds = Vec::new(alloc);
     let mut parts = Vec::new(alloc);

@@ -1,6 +1,6 @@
 //! When parts are dropped.
 use crate::kinds::kind_of;
-use crate::marked::{Drops, Marked};
+use crate::marked::{Drops, Marked, Tells};
 use flow_rig::{CallStop, Called, call_alone_with};
 use std::alloc::{AllocError, Global};
 use std::sync::Arc;
@@ -14,8 +14,8 @@ const TWO: &[u8] =
 // A part that passes packets on, and one that tells of drops at the end.
 fn parts(alloc: Global, drops: &Drops) -> Result<Vec<Marked>, AllocError> {
     let mut parts = Vec::new(alloc);
-    parts.push(Marked::new(alloc, drops, false)?)?;
-    parts.push(Marked::new(alloc, drops, true)?)?;
+    parts.push(Marked::new(alloc, drops, Tells::Nothing)?)?;
+    parts.push(Marked::new(alloc, drops, Tells::Drops)?)?;
     Ok(parts)
 }
 

@@ -1,5 +1,5 @@
-//! Trials of components of the caller's own: that a part is dropped when its process ends, what a part can't do, their
-//! kinds in a network, players, and tape files byte by byte. Nothing uses it. Each test is proved like any function: it
+//! Trials of components of the caller's own: which process has which part, that a part is dropped when its process ends,
+//! what a part can't do, their kinds in a network, players, and tape files byte by byte. Nothing uses it. Each test is proved like any function: it
 //! is safe, and it ends. Runs of the kind Number, and replays by their tapes, are told by rows (`flow_rows`).
 #![tactic(auto)]
 
@@ -11,6 +11,8 @@ mod kinds;
 mod marked;
 #[cfg(test)]
 mod offers;
+#[cfg(test)]
+mod order;
 #[cfg(test)]
 mod played;
 #[cfg(test)]

@@ -1,4 +1,4 @@
-//! Parts that tell when they are dropped.
+//! Parts that tell when they are dropped, or which they are.
 ghost use Rattle.std.specs.Prelude.{◌≡◌, ◌+◌, IfOk, None};
 ghost use Rattle.flow_own.specs.Desks.{GoesOn, count_acts};
 
@@ -27,12 +27,22 @@ impl Drop for Mark {
     }
 }
 
-/// Passes each packet on. One that tells sends at the end how many parts were dropped by then, in a packet.
+/// What a part sends at its end, as the text of a packet.
+#[derive(Clone, Copy, Debug, PartialEq, Eq)]
+pub enum Tells {
+    Nothing,
+    /// How many parts were dropped by then.
+    Drops,
+    /// Its own number.
+    Number(u64),
+}
+
+/// Passes each packet on, and tells something at its end.
 #[derive(Drop)]
 pub struct Marked {
     alloc: Global,
     mark: Mark,
-    tells: bool,
+    tells: Tells,
     answers: u64,
     last: Option<Result<Wish, PartStop>>,
     acts: u64,
@@ -53,7 +63,7 @@ fn digits(alloc: Global, number: u64) -> Result<Vec<u8>, AllocError> {
 }
 
 impl Marked {
-    pub fn new(alloc: Global, drops: &Drops, tells: bool) -> Result<Marked, AllocError>
+    pub fn new(alloc: Global, drops: &Drops, tells: Tells) -> Result<Marked, AllocError>
         ensures { IfOk result (λ part. part ≡ record { answers = 0; last = None; acts = 0 }) }
     {
         let drops = Arc::try_clone(drops)?;
@@ -67,19 +77,18 @@ impl Marked {
         })
     }
 
-    // Makes the packet with the number, once, and wishes to send it. It also tells how many acts were kept.
-    fn tell(&mut self, desk: &mut Desk<'_>) -> (Result<Wish, PartStop>, u64)
+    // Makes the packet with this number, once, and wishes to send it. It also tells how many acts were kept.
+    fn tell(&mut self, desk: &mut Desk<'_>, number: u64) -> (Result<Wish, PartStop>, u64)
         ensures goes_on { GoesOn desk.old desk.new }
         ensures acts { count_acts desk.new.made desk.new.dropped ≡ count_acts desk.old.made desk.old.dropped + result.1 }
         ensures shown { self.new ≡ self.old }
     {
-        let number = self.mark.drops.load(Ordering::SeqCst);
         let Ok(text) = digits(self.alloc, number) else {
             return (Err(PartStop::NoMemory), 0);
         };
         match desk.make(Kind::Normal, &text) {
             Ok(made) => {
-                self.tells = false;
+                self.tells = Tells::Nothing;
                 (Ok(Wish::Send(Port(0), made)), 1)
             }
             Err(DeskStop::NoMemory) => (Err(PartStop::NoMemory), 0),
@@ -94,12 +103,14 @@ impl Marked {
     {
         match answer {
             Answer::Got(id) => (Ok(Wish::Send(Port(0), id)), 0),
-            Answer::End => {
-                if self.tells {
-                    return self.tell(desk);
+            Answer::End => match self.tells {
+                Tells::Nothing => (Ok(Wish::Deactivate), 0),
+                Tells::Drops => {
+                    let drops = self.mark.drops.load(Ordering::SeqCst);
+                    self.tell(desk, drops)
                 }
-                (Ok(Wish::Deactivate), 0)
-            }
+                Tells::Number(number) => self.tell(desk, number),
+            },
             _ => (Ok(Wish::Receive(Port(0))), 0),
         }
     }

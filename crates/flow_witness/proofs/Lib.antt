@@ -15,3 +15,6 @@ pub mod BalanceRun
 pub mod BalanceEnds
 pub mod Premises
 pub mod Worked
+pub mod LonePlan
+pub mod LoneRun
+pub mod LoneMet

@@ -64,7 +64,7 @@ plan_is : (name : Name) (net : List ℕ) (text : NetText) (plan : Network) → S
 plan_is name net text plan there is = only_plan text plan (subst (λ (bytes : List ℕ). Holds [] bytes text plan) (sym (first_is name net there)) is)
 
 -- Two journals of the same turns and numbers are one schedule.
-one_schedule : (a b : Journal) → a.turns ≡ b.turns → a.seen ≡ b.seen → schedule_of a ≡ schedule_of b
+pub one_schedule : (a b : Journal) → a.turns ≡ b.turns → a.seen ≡ b.seen → schedule_of a ≡ schedule_of b
 one_schedule a b turns seen = ap₂ (λ t s. record { turns = t; seen = s }) turns seen
 
 -- The journal's file tells the journal.
@@ -101,11 +101,11 @@ replay_at : (words : List (String Global)) (place : ℕ) → IsTapesAt words pla
 replay_at words place at = (at.1.0, at.1.1, Some at.1.2, at.1.3)
 
 -- What is asked for is one thing.
-asked_is : (a b : Asked) → Some a ≡ Some b → a ≡ b
+pub asked_is : (a b : Asked) → Some a ≡ Some b → a ≡ b
 asked_is a b h = cc
 
 -- The tapes that a replay names.
-abbrev tapes_of : Asked → Option Name
+abbrev pub tapes_of : Asked → Option Name
 tapes_of (Replay name kept tapes) = tapes
 tapes_of other = None
 
@@ -136,7 +136,7 @@ is_replay (Replay name kept tapes) = true
 is_replay other = false
 
 -- Words that ask for something else ask for no replay.
-no_replay : (words : List (String Global)) (asked : Asked) → Asks words asked → is_replay asked ≡ false → IsReplay words → ⊥
+pub no_replay : (words : List (String Global)) (asked : Asked) → Asks words asked → is_replay asked ≡ false → IsReplay words → ⊥
 no_replay words asked is other replay =
     let same : asked ≡ Replay replay.0 replay.1 replay.2 = asked_is asked (Replay replay.0 replay.1 replay.2) (sym is ∙ replay.3) in
     let bad : false ≡ true = sym other ∙ ap is_replay same in
@@ -169,15 +169,15 @@ on_net : (words : List (String Global)) (asked : Asked) → Asks words asked →
 on_net words asked is named = ap (λ (o : Option Asked). option_and_then file_of o) is ∙ named
 
 -- A call that read valid files, whatever else it did, is valid.
-pub call_valid : (words : List (String Global)) (asked : Asked) (read : List Filled) (w : Work) → w.words ≡ words → w.own ≡ [] → w.before.opened ≡ [] → w.after.opened ≡ map whole read → Asks words asked → file_of asked ≡ Some (codes "net") → AreValid [] words (map whole read) → IsValid w
-call_valid words asked read w named none_own none opened is net valid =
+pub call_valid : (own : List Offer) (words : List (String Global)) (asked : Asked) (read : List Filled) (w : Work) → w.words ≡ words → w.own ≡ own → w.before.opened ≡ [] → w.after.opened ≡ map whole read → Asks words asked → file_of asked ≡ Some (codes "net") → AreValid own words (map whole read) → IsValid w
+call_valid own words asked read w named none_own none opened is net valid =
     inr (
       codes "net",
       subst (λ (ws : List (String Global)). IsCommand ws (codes "net")) (sym named) (on_net words asked is net),
       λ found gave.
           let same : map whole read ≡ found = sym opened ∙ gave ∙ ap (λ (l : List Logged). l ++ found) none in
-          subst (λ (own : List Offer). AreValid own w.words found) (sym none_own)
-          (subst (λ (ws : List (String Global)). AreValid [] ws found) (sym named) (subst (λ (files : List Logged). AreValid [] words files) same valid)),
+          subst (λ (offers : List Offer). AreValid offers w.words found) (sym none_own)
+          (subst (λ (ws : List (String Global)). AreValid own ws found) (sym named) (subst (λ (files : List Logged). AreValid own words files) same valid)),
     )
 
 -- What a replay read is valid, and so is what a run, a check or a judge read.
@@ -191,11 +191,11 @@ pub check_valid : (words : List (String Global)) (asked : Asked) → Asks words 
 check_valid words asked is other = checked_valid words (no_replay words asked is other)
 
 -- The argument of the network file.
-abbrev net_argument : Given
+abbrev pub net_argument : Given
 net_argument = (arguments.NetFile, codes "net")
 
 -- Its word alone is a line.
-net_line : IsLine (net_argument ∷ []) (codes "net" ∷ [])
+pub net_line : IsLine (net_argument ∷ []) (codes "net" ∷ [])
 net_line = inr (codes "net" ∷ [], [], (refl, refl), refl, refl)
 
 -- These texts ask for the replay, the run, the check and the judge.

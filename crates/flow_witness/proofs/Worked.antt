@@ -11,6 +11,8 @@ use Rattle.flow_net.specs.Over.{IsOver}
 use Rattle.flow_words.specs.Words.{AskedRun, Run, Check, Judge, Replay, run_of}
 use Rattle.flow_parse.specs.Canonical.{canonical}
 use Rattle.flow_model.specs.Laws.{KeepsPrefixes}
+use Rattle.flow_model.specs.States.{Process as StateProcess}
+use Rattle.flow_model.proofs.Replacing.{replaced-from}
 use Rattle.flow_model.specs.Ready.{StartsPlans, ComponentsFit}
 use Rattle.flow_catalogue.specs.declared.standard.Std.{Std}
 use Rattle.flow_catalogue.specs.declared.table.StdKind.TheVariants as kinds
@@ -24,7 +26,7 @@ use Rattle.flow_journal.specs.Runs.{IsScheduled}
 use Rattle.flow_journal.specs.declared.merge.Journal.{Journal}
 use Rattle.flow_own.specs.Mixed.{Other}
 use Rattle.flow_tape.specs.Files.{IsWritable as IsTapesWritable}
-use Rattle.flow_played.specs.Others.{others, as_mixed}
+use Rattle.flow_played.specs.Others.{others, as_mixed, other_at}
 use Rattle.flow_played.specs.Plain.{AllRunAsTheyAre, TellsAsItIs}
 use Rattle.flow_offer.specs.Kinds.{AreOwnKinds}
 use Rattle.flow_offer.specs.Processes.{IsOfferedPlan}
@@ -34,7 +36,7 @@ use Rattle.flow_load.specs.Step.{Filled, whole, IsRead}
 use Rattle.flow_load.specs.Offers.{AnyKind, Recorded, Taped, net_rules}
 use Rattle.flow_load.specs.Components.{AreComponents, IsComponent, IsPlayedComponent}
 use Rattle.flow_load.specs.Many.{replaced_all}
-use Rattle.flow_load.specs.Runs.{kept_files}
+use Rattle.flow_load.specs.Runs.{IsPlayedOut, kept_files}
 use Rattle.flow_load.specs.Reads.{IsFile, IsJournalFile, IsReady}
 use Rattle.flow_cli.specs.Top.{Call, answer}
 use Rattle.flow_load.proofs.NoKinds.{none-own}
@@ -212,15 +214,15 @@ no_tapes = record { few = omega arith; each = λ k tape there. absurd cc }
 undetermined : IsDeterminate balance → ⊥
 undetermined is = is.no_balance 1 balancer refl refl
 
-checks : CanMeet (Check (codes "net")) (network_file ∷ [])
+checks : CanMeet [] held_files (Check (codes "net")) (network_file ∷ [])
 checks words asks = record {
   call = call_of words (after (codes "net") (network_file ∷ [])) none_made (canonical balance_value);
   words_are = refl;
-  none_own = refl;
+  own_is = refl;
   shelf = refl;
   opened = refl;
   faults = record { reads = λ rose. omega (arith, rose); writes = λ rose. omega (arith, rose); prints = λ rose. omega (arith, rose) };
-  valid = call_valid words (Check (codes "net")) (network_file ∷ []) (call_of words (after (codes "net") (network_file ∷ [])) none_made (canonical balance_value)).work refl refl refl refl asks refl (check_valid words (Check (codes "net")) asks refl);
+  valid = call_valid [] words (Check (codes "net")) (network_file ∷ []) (call_of words (after (codes "net") (network_file ∷ [])) none_made (canonical balance_value)).work refl refl refl refl asks refl (check_valid words (Check (codes "net")) asks refl);
   ends = inr (record {
     text = canonical balance_value;
     says = inl (record { name = codes "net"; asks = asks; value = balance_value; checked = record { net = network_bytes; plan = balance; file = net_is; shelf = refl; nothing = ((refl, refl), refl) }; text_is = refl; status_is = refl });
@@ -228,15 +230,15 @@ checks words asks = record {
   });
 }
 
-judges : CanMeet (Judge (codes "net")) (network_file ∷ [])
+judges : CanMeet [] held_files (Judge (codes "net")) (network_file ∷ [])
 judges words asks = record {
   call = call_of words (after (codes "net") (network_file ∷ [])) none_made (answer false);
   words_are = refl;
-  none_own = refl;
+  own_is = refl;
   shelf = refl;
   opened = refl;
   faults = record { reads = λ rose. omega (arith, rose); writes = λ rose. omega (arith, rose); prints = λ rose. omega (arith, rose) };
-  valid = call_valid words (Judge (codes "net")) (network_file ∷ []) (call_of words (after (codes "net") (network_file ∷ [])) none_made (answer false)).work refl refl refl refl asks refl (check_valid words (Judge (codes "net")) asks refl);
+  valid = call_valid [] words (Judge (codes "net")) (network_file ∷ []) (call_of words (after (codes "net") (network_file ∷ [])) none_made (answer false)).work refl refl refl refl asks refl (check_valid words (Judge (codes "net")) asks refl);
   ends = inr (record {
     text = answer false;
     says = inr (inr (inr (inl (record { name = codes "net"; asks = asks; value = balance_value; checked = record { net = network_bytes; plan = balance; file = net_is; shelf = refl; nothing = ((refl, refl), refl) }; text_is = inr (undetermined, refl); status_is = refl }))));
@@ -259,15 +261,15 @@ module _ (starts : StartsPlans std_rules) (prefixes : KeepsPrefixes std_rules) (
   any_told : TellsOf balance (as_mixed balance_last) balance_report
   any_told = ((alike balance_last).reports balance balance_report).0 balance_told
 
-  replays : CanMeet (Replay (codes "net") (codes "j") None) replayed
+  replays : CanMeet [] held_files (Replay (codes "net") (codes "j") None) replayed
   replays words asks = record {
     call = call_of words (after (codes "x") replayed) balance_journal (report_text balance_report);
     words_are = refl;
-    none_own = refl;
+    own_is = refl;
     shelf = refl;
     opened = refl;
     faults = record { reads = λ rose. omega (arith, rose); writes = λ rose. omega (arith, rose); prints = λ rose. omega (arith, rose) };
-    valid = call_valid words (Replay (codes "net") (codes "j") None) replayed (call_of words (after (codes "x") replayed) balance_journal (report_text balance_report)).work refl refl refl refl asks refl (replay_valid plain single words asks);
+    valid = call_valid [] words (Replay (codes "net") (codes "j") None) replayed (call_of words (after (codes "x") replayed) balance_journal (report_text balance_report)).work refl refl refl refl asks refl (replay_valid plain single words asks);
     ends = inr (record {
       text = report_text balance_report;
       says = inr (inl (record {
@@ -297,15 +299,15 @@ module _ (starts : StartsPlans std_rules) (prefixes : KeepsPrefixes std_rules) (
     });
   }
 
-  runs : (kept tapes : Option Name) (workers : ℕ) → CanMeet (run_of (run_with kept tapes workers)) ran
+  runs : (kept tapes : Option Name) (workers : ℕ) → CanMeet [] held_files (run_of (run_with kept tapes workers)) ran
   runs kept tapes workers words asks = record {
     call = call_of words (after_run (run_with kept tapes workers)) balance_journal (report_text balance_report);
     words_are = refl;
-    none_own = refl;
+    own_is = refl;
     shelf = refl;
     opened = refl;
     faults = record { reads = λ rose. omega (arith, rose); writes = λ rose. omega (arith, rose); prints = λ rose. omega (arith, rose) };
-    valid = call_valid words (Run (codes "net") kept tapes workers) ran (call_of words (after_run (run_with kept tapes workers)) balance_journal (report_text balance_report)).work refl refl refl refl asks refl (run_valid words (Run (codes "net") kept tapes workers) asks refl);
+    valid = call_valid [] words (Run (codes "net") kept tapes workers) ran (call_of words (after_run (run_with kept tapes workers)) balance_journal (report_text balance_report)).work refl refl refl refl asks refl (run_valid words (Run (codes "net") kept tapes workers) asks refl);
     ends = inl (
       run_with kept tapes workers,
       asks,
@@ -322,6 +324,9 @@ module _ (starts : StartsPlans std_rules) (prefixes : KeepsPrefixes std_rules) (
             are_components = any_are;
             run = ((plain balance balance_components).runs workers (schedule_of balance_journal) balance_last).0
                 (record { schedule = scheduled; quiet = balance_quiet; robin = λ none. balance_robin });
+            played_out = λ p x there.
+                let from = replaced-from other_at balance_last.kept.processes p x there in
+                subst (λ (y : StateProcess AnyKind). IsPlayedOut y.component) from.2 tt;
             writable = is_file.writable;
             tapes_writable = no_tapes;
           };

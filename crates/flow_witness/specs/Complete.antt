@@ -11,6 +11,7 @@ use Rattle.flow_words.specs.Words.{Asked, run_of, Run, Check, Judge, Replay, com
 use Rattle.flow_journal.specs.Files.{IsFileOf}
 use Rattle.flow_journal.specs.declared.merge.Journal.{Journal}
 use Rattle.flow_load.specs.Step.{Filled, whole}
+use Rattle.flow_load.specs.Offers.{Offer}
 use Rattle.flow_load.specs.Reads.{Asks}
 use Rattle.flow_cli.specs.Top.{Call, ComesToEnd, NoFaults}
 use Rattle.flow_load.specs.Valid.{IsValid, IsValidReplay}
@@ -76,9 +77,9 @@ abbrev pub held_files : Files
 held_files name =
     if bytes_eq name (codes "net") then Some network_bytes else (if bytes_eq name (codes "x") then Some input_bytes else (if bytes_eq name (codes "j") then Some journal_bytes else None))
 
--- The shelf, which tells what it holds, before anything was read.
-abbrev pub shelf_before : Outside
-shelf_before = record {
+-- A shelf, which tells that it holds these files, before anything was read.
+abbrev pub shelf_with : Files → Outside
+shelf_with held = record {
   open_name = None;
   left = None;
   read_faults = 0;
@@ -87,35 +88,40 @@ shelf_before = record {
   taken = None;
   write_faults = 0;
   last_write_fault = None;
-  files = Some held_files;
+  files = Some held;
   opened = [];
   created = [];
 }
 
--- A call over this shelf with these words, whose caller has no kinds of its own, in which all premises hold: no count of faults rose, and what was read, these files, is valid. It came to its end.
-pub record MeetsPremises (words : List (String Global)) (read : List Filled) : Type 0 where
+-- The shelf with the three files.
+abbrev pub shelf_before : Outside
+shelf_before = shelf_with held_files
+
+-- A call over a shelf that holds these files, with these words, whose caller offers this of its own, in which all premises hold: no count of faults rose, and what was read, some of the files, is
+-- valid. It came to its end.
+pub record MeetsPremises (own : List Offer) (held : Files) (words : List (String Global)) (read : List Filled) : Type 0 where
   pub call : Call
   pub words_are : call.work.words ≡ words
-  pub none_own : call.work.own ≡ []
-  pub shelf : call.work.before ≡ shelf_before
+  pub own_is : call.work.own ≡ own
+  pub shelf : call.work.before ≡ shelf_with held
   pub opened : call.work.after.opened ≡ map whole read
   pub faults : NoFaults call
   pub valid : IsValid call.work
   pub ends : ComesToEnd call
 
 -- Whatever the words are that ask for this, there is such a call with them.
-abbrev pub CanMeet : Asked → List Filled → Type 0
-CanMeet asked read = (words : List (String Global)) → Asks words asked → MeetsPremises words read
+abbrev pub CanMeet : List Offer → Files → Asked → List Filled → Type 0
+CanMeet own held asked read = (words : List (String Global)) → Asks words asked → MeetsPremises own held words read
 
 -- What the top calls ask before they promise to come to their end can be had of each form that has a network file, on files that are told, and calls that have it come to their end. The
 -- journal's file, whose level turns saw numbers, holds a schedule of the network on what its reader's file gave, whatever components there are on that.
 pub record PremisesAreMet : Type 0 where
   pub journal_is : IsFileOf balance_journal journal_bytes
   pub schedule : IsValidReplay [] None (map whole (network_file ∷ journal_file ∷ input_file ∷ [])) balance
-  pub replay : CanMeet (Replay (codes "net") (codes "j") None) (network_file ∷ journal_file ∷ input_file ∷ [])
-  pub run : (kept tapes : Option Name) (workers : ℕ) → CanMeet (run_of (record { net = codes "net"; journal = kept; tapes = tapes; workers = workers })) (network_file ∷ input_file ∷ [])
-  pub check : CanMeet (Check (codes "net")) (network_file ∷ [])
-  pub judge : CanMeet (Judge (codes "net")) (network_file ∷ [])
+  pub replay : CanMeet [] held_files (Replay (codes "net") (codes "j") None) (network_file ∷ journal_file ∷ input_file ∷ [])
+  pub run : (kept tapes : Option Name) (workers : ℕ) → CanMeet [] held_files (run_of (record { net = codes "net"; journal = kept; tapes = tapes; workers = workers })) (network_file ∷ input_file ∷ [])
+  pub check : CanMeet [] held_files (Check (codes "net")) (network_file ∷ [])
+  pub judge : CanMeet [] held_files (Judge (codes "net")) (network_file ∷ [])
   -- Such words there are: of each form these texts.
   pub asks_replay : command_of (codes "--replay" ∷ codes "j" ∷ codes "net" ∷ []) ≡ Some (Replay (codes "net") (codes "j") None)
   pub asks_run : command_of (codes "net" ∷ []) ≡ Some (Run (codes "net") None None 0)

@@ -6,3 +6,4 @@ pub mod Ends
 pub mod Telegram
 pub mod Nightly
 pub mod Complete
+pub mod Lone

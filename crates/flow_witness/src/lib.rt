@@ -14,7 +14,7 @@ ghost use Rattle.flow_witness.specs.FirstRun.{IsFirstRun};
 ghost use Rattle.flow_witness.specs.Mute.{MuteIsRefused};
 ghost use Rattle.flow_witness.specs.Twice.{TwiceIsRefused};
 
-pub use complete::the_premises_of_completeness_are_met;
+pub use complete::{the_premises_of_completeness_are_met, the_premises_with_parts_are_met};
 pub use nightly::the_nightly_network_is_a_batch_update;
 pub use telegram::the_telegram_composes;
 

@@ -1,5 +1,5 @@
 //! What one worker's calls tell while another one's go on.
-use crate::floor::opened::{READ, Staffed, WRITE, discard, opened};
+use crate::floor::opened::{READ, Staffed, WRITE, discard, merged, opened};
 use crate::floor::steps::{
     claims, claims_in_vain, hands_back, makes, parks, reads_live, stays_dormant, woke,
 };
@@ -55,5 +55,10 @@ fn stamps_are_one_for_all(rt: HostRuntime) {
     let mut writer = claims(&rt, &floor, &mut second, WRITE);
     makes(&rt, &floor, &mut second, &mut writer, 2);
     hands_back(&floor, &mut second, writer);
-    discard(&rt, rt.alloc(), floor, first, second, rooms);
+    let journal = merged(&rt, rt.alloc(), floor, first, second, rooms);
+    assert_eq!(&rt;
+        journal.turns.as_slice(),
+        [READ as u8, READ as u8, WRITE as u8].as_slice()
+    );
+    assert!(&rt; journal.seen.is_empty());
 }

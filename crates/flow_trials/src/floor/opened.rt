@@ -4,6 +4,7 @@ ghost use Rattle.std.specs.Prelude.{◌≡◌, ◌∷◌, []};
 
 use flow_catalogue::Std;
 use flow_floor::{Floor, OpenStop, Opened, Rooms, Worker};
+use flow_journal::Journal;
 use flow_rig::started;
 use std::alloc::Global;
 use std::process::Abort;
@@ -59,6 +60,40 @@ pub(crate) fn opened(rt: &impl Abort, alloc: Global) -> Staffed
     }
 }
 
+// Both workers, in their order.
+fn together(
+    rt: &impl Abort,
+    alloc: Global,
+    first: Worker<Std>,
+    second: Worker<Std>,
+) -> Vec<Worker<Std>>
+    ensures { result.items ≡ first ∷ second ∷ [] }
+{
+    let mut workers = Vec::with_capacity(alloc, 2).expect(rt, "no memory");
+    workers.push_reserved(first);
+    workers.push_reserved(second);
+    workers
+}
+
+/// The journal of the turns that both workers have made. The run is given up.
+pub(crate) fn merged(
+    rt: &impl Abort,
+    alloc: Global,
+    floor: Floor<Std>,
+    first: Worker<Std>,
+    second: Worker<Std>,
+    rooms: Rooms<Std>,
+) -> Journal
+    requires crew { IsCrewOf floor (first ∷ second ∷ []) }
+    requires rooms { HasRoomsFor floor rooms }
+{
+    let workers = together(rt, alloc, first, second);
+    let net = floor.pause(workers, rooms).into_net();
+    let journal = Journal::merge(alloc, &net);
+    net.discard();
+    journal.expect(rt, "no memory")
+}
+
 /// Gives the run up, by both workers.
 pub(crate) fn discard(
     rt: &impl Abort,
@@ -71,8 +106,6 @@ pub(crate) fn discard(
     requires crew { IsCrewOf floor (first ∷ second ∷ []) }
     requires rooms { HasRoomsFor floor rooms }
 {
-    let mut workers = Vec::with_capacity(alloc, 2).expect(rt, "no memory");
-    workers.push_reserved(first);
-    workers.push_reserved(second);
+    let workers = together(rt, alloc, first, second);
     floor.discard(workers, rooms);
 }

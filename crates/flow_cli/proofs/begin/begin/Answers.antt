@@ -16,7 +16,7 @@ start-requires-clause-offered g c =
     let offer = some-offer c.args.kinds.now c.args.parts.items c.requires.parts in
     let own = offer.0 in
     let offered = offer.1 in
-    let asks = subst (λ (t : Task AnyKind). Prepares own o a c.args.words.now (Ok t)) c.in-Run.is (c.in-Ok.ensures own offered) in
+    let asks = subst (λ (t : Task AnyKind). Prepares own o a c.args.words.now (Ok t)) c.in-Run.is (c.in-Ok.ensures.prepares own offered) in
     run-offered own c.args.kinds.now o a c.args.words.now c.in-Run.job (run_by c.in-Run.asked) offered.kinds_are asks
 
 pub start-requires-clause-live : goal.start-requires-clause-live
@@ -26,21 +26,21 @@ start-requires-clause-live g c =
     let offer = some-offer c.args.kinds.now c.args.parts.items c.requires.parts in
     let own = offer.0 in
     let offered = offer.1 in
-    let asks = subst (λ (t : Task AnyKind). Prepares own o a c.args.words.now (Ok t)) c.in-Run.is (c.in-Ok.ensures own offered) in
+    let asks = subst (λ (t : Task AnyKind). Prepares own o a c.args.words.now (Ok t)) c.in-Run.is (c.in-Ok.ensures.prepares own offered) in
     run-live own c.args.kinds.now o a c.args.words.now c.in-Run.job (run_by c.in-Run.asked) offered.kinds_are asks
 
 pub returns-in-Ok-start : goal.returns-in-Ok-start
 returns-in-Ok-start g c = λ own offered.
     let o = g.F.Edge.outside c.args.shelf.now in
     let a = g.F.Edge.outside c.prepare.new.shelf in
-    let asks = subst (λ (t : Task AnyKind). Prepares own o a c.args.words.now (Ok t)) c.in-Run.is (c.in-Ok.ensures own offered) in
+    let asks = subst (λ (t : Task AnyKind). Prepares own o a c.args.words.now (Ok t)) c.in-Run.is (c.in-Ok.ensures.prepares own offered) in
     begins-run own o a c.args.words.now c.in-Run.job c.in-Run.asked c.in-Ok-start.running c.in-Ok-start.net asks c.in-Ok-start.ensures.plan c.in-Ok-start.ensures.goal c.in-Ok-start.ensures.starts
 
 pub returns-in-Run : goal.returns-in-Run
 returns-in-Run g c = λ own offered recorded empty.
     let o = g.F.Edge.outside c.args.shelf.now in
     let a = g.F.Edge.outside c.prepare.new.shelf in
-    let asks = subst (λ (t : Task AnyKind). Prepares own o a c.args.words.now (Ok t)) c.in-Run.is (c.in-Ok.ensures own offered) in
+    let asks = subst (λ (t : Task AnyKind). Prepares own o a c.args.words.now (Ok t)) c.in-Run.is (c.in-Ok.ensures.prepares own offered) in
     wants-memory o a c.args.words.now own recorded (may-read o a _ asks.ready.ready.reads) empty
 
 pub start_made-requires-clause-least : goal.start_made-requires-clause-least
@@ -50,7 +50,7 @@ start_made-requires-clause-least g c =
     let offer = some-offer c.args.kinds.now c.args.parts.items c.requires.parts in
     let own = offer.0 in
     let offered = offer.1 in
-    let asks = subst (λ (t : Task AnyKind). Prepares own o a c.args.words.now (Ok t)) c.in-Make.is (c.in-Ok.ensures own offered) in
+    let asks = subst (λ (t : Task AnyKind). Prepares own o a c.args.words.now (Ok t)) c.in-Make.is (c.in-Ok.ensures.prepares own offered) in
     asks.least
 
 pub start_made-requires-clause-most : goal.start_made-requires-clause-most
@@ -60,21 +60,21 @@ start_made-requires-clause-most g c =
     let offer = some-offer c.args.kinds.now c.args.parts.items c.requires.parts in
     let own = offer.0 in
     let offered = offer.1 in
-    let asks = subst (λ (t : Task AnyKind). Prepares own o a c.args.words.now (Ok t)) c.in-Make.is (c.in-Ok.ensures own offered) in
+    let asks = subst (λ (t : Task AnyKind). Prepares own o a c.args.words.now (Ok t)) c.in-Make.is (c.in-Ok.ensures.prepares own offered) in
     asks.most
 
 pub returns-in-Ok-start_made : goal.returns-in-Ok-start_made
 returns-in-Ok-start_made g c = λ own offered.
     let o = g.F.Edge.outside c.args.shelf.now in
     let a = g.F.Edge.outside c.prepare.new.shelf in
-    let asks = subst (λ (t : Task AnyKind). Prepares own o a c.args.words.now (Ok t)) c.in-Make.is (c.in-Ok.ensures own offered) in
+    let asks = subst (λ (t : Task AnyKind). Prepares own o a c.args.words.now (Ok t)) c.in-Make.is (c.in-Ok.ensures.prepares own offered) in
     begins-make own o a c.args.words.now c.in-Make.number c.in-Make.workers c.in-Ok-start_made.running c.in-Ok-start_made.net asks c.in-Ok-start_made.ensures
 
 pub returns-in-Ok-spelling : goal.returns-in-Ok-spelling
 returns-in-Ok-spelling g c = λ own offered.
     let o = g.F.Edge.outside c.args.shelf.now in
     let a = g.F.Edge.outside c.prepare.new.shelf in
-    let ready = subst (λ (t : Task AnyKind). Prepares own o a c.args.words.now (Ok t)) c.in-Check.is (c.in-Ok.ensures own offered) in
+    let ready = subst (λ (t : Task AnyKind). Prepares own o a c.args.words.now (Ok t)) c.in-Check.is (c.in-Ok.ensures.prepares own offered) in
     let said = c.in-Ok-spelling.ensures in (
       says-checked o a c.args.words.now own ready.0 ready.2.0 c.in-Check.text ready.2.1 c.in-Ok-spelling.said ready.1 ready.2.2 ready.2.3 said.text said.status said.nothing,
       as-asked c.args.words.now (Check ready.0) c.in-Ok-spelling.said.crew c.in-Ok-spelling.said.journal ready.1 (by-none c.in-Ok-spelling.said.crew c.in-Ok-spelling.said.journal said.crew),
@@ -84,7 +84,7 @@ pub returns-in-Ok-judgement : goal.returns-in-Ok-judgement
 returns-in-Ok-judgement g c = λ own offered.
     let o = g.F.Edge.outside c.args.shelf.now in
     let a = g.F.Edge.outside c.prepare.new.shelf in
-    let ready = subst (λ (t : Task AnyKind). Prepares own o a c.args.words.now (Ok t)) c.in-Judge.is (c.in-Ok.ensures own offered) in
+    let ready = subst (λ (t : Task AnyKind). Prepares own o a c.args.words.now (Ok t)) c.in-Judge.is (c.in-Ok.ensures.prepares own offered) in
     let said = c.in-Ok-judgement.ensures in (
       says-judged o a c.args.words.now own ready.0 ready.2.0 ready.2.1 c.in-Judge.plan c.in-Ok-judgement.said ready.1 ready.2.2 ready.2.3 said.text said.status said.nothing,
       as-asked c.args.words.now (Judge ready.0) c.in-Ok-judgement.said.crew c.in-Ok-judgement.said.journal ready.1 (by-none c.in-Ok-judgement.said.crew c.in-Ok-judgement.said.journal said.crew),
@@ -97,7 +97,7 @@ run_again-requires-clause-offered g c =
     let offer = some-offer c.args.kinds.now c.args.parts.items c.requires.parts in
     let own = offer.0 in
     let offered = offer.1 in
-    let ready = subst (λ (t : Task AnyKind). Prepares own o a c.args.words.now (Ok t)) c.in-Replay.is (c.in-Ok.ensures own offered) in
+    let ready = subst (λ (t : Task AnyKind). Prepares own o a c.args.words.now (Ok t)) c.in-Replay.is (c.in-Ok.ensures.prepares own offered) in
     again-offered own c.args.kinds.now o a ready.0 ready.1 ready.2 c.in-Replay.again offered.kinds_are ready.4
 
 pub run_again-requires-clause-components : goal.run_again-requires-clause-components
@@ -107,7 +107,7 @@ run_again-requires-clause-components g c =
     let offer = some-offer c.args.kinds.now c.args.parts.items c.requires.parts in
     let own = offer.0 in
     let offered = offer.1 in
-    let ready = subst (λ (t : Task AnyKind). Prepares own o a c.args.words.now (Ok t)) c.in-Replay.is (c.in-Ok.ensures own offered) in
+    let ready = subst (λ (t : Task AnyKind). Prepares own o a c.args.words.now (Ok t)) c.in-Replay.is (c.in-Ok.ensures.prepares own offered) in
     again-components own c.args.kinds.now o a ready.0 ready.1 ready.2 c.in-Replay.again offered.kinds_are ready.4
 
 pub run_again-requires-clause-writable : goal.run_again-requires-clause-writable
@@ -117,14 +117,14 @@ run_again-requires-clause-writable g c =
     let offer = some-offer c.args.kinds.now c.args.parts.items c.requires.parts in
     let own = offer.0 in
     let offered = offer.1 in
-    let ready = subst (λ (t : Task AnyKind). Prepares own o a c.args.words.now (Ok t)) c.in-Replay.is (c.in-Ok.ensures own offered) in
+    let ready = subst (λ (t : Task AnyKind). Prepares own o a c.args.words.now (Ok t)) c.in-Replay.is (c.in-Ok.ensures.prepares own offered) in
     ready.4.is_journal.is.writable
 
 pub returns-in-Ok-run_again : goal.returns-in-Ok-run_again
 returns-in-Ok-run_again g c = λ own offered.
     let o = g.F.Edge.outside c.args.shelf.now in
     let a = g.F.Edge.outside c.prepare.new.shelf in
-    let ready = subst (λ (t : Task AnyKind). Prepares own o a c.args.words.now (Ok t)) c.in-Replay.is (c.in-Ok.ensures own offered) in
+    let ready = subst (λ (t : Task AnyKind). Prepares own o a c.args.words.now (Ok t)) c.in-Replay.is (c.in-Ok.ensures.prepares own offered) in
     let said = c.in-Ok-run_again.said in (
       says-again o a c.args.words.now own ready.0 ready.1 ready.2 c.in-Replay.again ready.3 ready.4 said c.in-Ok-run_again.ensures,
       as-asked c.args.words.now (Replay ready.0 ready.1 ready.2) said.crew said.journal ready.3 (by-none said.crew said.journal c.in-Ok-run_again.ensures.5),
@@ -134,5 +134,5 @@ pub returns : goal.returns
 returns g c = λ own offered.
     let o = g.F.Edge.outside c.args.shelf.now in
     let a = g.F.Edge.outside c.prepare.new.shelf in
-    let ready = subst (λ (t : Task AnyKind). Prepares own o a c.args.words.now (Ok t)) c.in-Replay.is (c.in-Ok.ensures own offered) in
+    let ready = subst (λ (t : Task AnyKind). Prepares own o a c.args.words.now (Ok t)) c.in-Replay.is (c.in-Ok.ensures.prepares own offered) in
     again-stopped o a c.args.words.now own ready.0 ready.1 ready.2 c.in-Replay.again ready.3 ready.4 c.in-Err-run_again.stop c.in-Err-run_again.ensures

@@ -13,16 +13,16 @@ returns-in_default-clause-crew g c =
     c.conclude.ensures.crew (offers_of c.args.own.items) c.args.words.now (g.F.Edge.outside c.args.shelf.now) (λ recorded empty. inl (record { nothing = empty; files = refl; created = refl }))
 
 pub perform_by_workers-done-requires-clause-parts : goal.perform_by_workers-done-requires-clause-parts
-perform_by_workers-done-requires-clause-parts g c κs within = as-many (offers_of c.args.own.items) c.in-Ok.kinds.items c.in-Ok.parts.items c.in-Ok.ensures ∙ ap (λ l. length l) (sym c.deref.ensures.value)
+perform_by_workers-done-requires-clause-parts g c κs within = as-many (offers_of c.args.own.items) c.in-Ok.kinds.items c.in-Ok.parts.items c.in-Ok.ensures.offered ∙ ap (λ l. length l) (sym c.deref.ensures.value)
 
 pub returns-clause-promises : goal.returns-clause-promises
 returns-clause-promises g c =
     let own = offers_of c.args.own.items in
-    let offered = subst (λ (kinds : List KindSpec). AreOffered own kinds c.in-Ok.parts.items) (sym c.deref.ensures.value) c.in-Ok.ensures in
+    let offered = subst (λ (kinds : List KindSpec). AreOffered own kinds c.in-Ok.parts.items) (sym c.deref.ensures.value) c.in-Ok.ensures.offered in
     c.conclude-2.ensures.promises own c.args.words.now (g.F.Edge.outside c.args.shelf.now) (c.perform_by_workers-done.ensures own offered)
 
 pub returns-clause-crew : goal.returns-clause-crew
 returns-clause-crew g c =
     let own = offers_of c.args.own.items in
-    let offered = subst (λ (kinds : List KindSpec). AreOffered own kinds c.in-Ok.parts.items) (sym c.deref.ensures.value) c.in-Ok.ensures in
+    let offered = subst (λ (kinds : List KindSpec). AreOffered own kinds c.in-Ok.parts.items) (sym c.deref.ensures.value) c.in-Ok.ensures.offered in
     c.conclude-2.ensures.crew own c.args.words.now (g.F.Edge.outside c.args.shelf.now) (c.perform_by_workers-done.ensures own offered)

@@ -7,34 +7,34 @@ use Rattle.flow_load.specs.Prepare.{IsReadyAgain}
 use Rattle.flow_load.proofs.Befores.{asks-as, on-file, offered-file}
 use Rattle.flow_load.proofs.before.prepare.Goals as goal
 
-pub returns-in-Run : goal.returns-in-Run
-returns-in-Run g c = λ own offered recorded empty.
+pub returns-in-Run-clause-prepares : goal.returns-in-Run-clause-prepares
+returns-in-Run-clause-prepares g c = λ own offered recorded empty.
     let run = c.in-Run in
     let some = c.in-Ok-Some.field-0-is ∙ ap Some run.is in
-    c.in-Err-runnable.ensures own offered c.args.words.now recorded (asks-as c.args.words.now _ (commands.Run run.asked) c.in-Ok-Some.ensures.words some) empty
+    c.in-Err-runnable.ensures.reads own offered c.args.words.now recorded (asks-as c.args.words.now _ (commands.Run run.asked) c.in-Ok-Some.ensures.words some) empty
 
-pub returns-in-Check : goal.returns-in-Check
-returns-in-Check g c = λ own offered recorded empty.
+pub returns-in-Check-clause-prepares : goal.returns-in-Check-clause-prepares
+returns-in-Check-clause-prepares g c = λ own offered recorded empty.
     let check = c.in-Check in
     let some = c.in-Ok-Some.field-0-is ∙ ap Some check.is in
     let asks = asks-as c.args.words.now _ (commands.Check check.name) c.in-Ok-Some.ensures.words some in
     c.in-Err-load.ensures c.args.words.now own recorded offered.kinds_are (on-file c.args.words.now (Check check.name.now) check.name.now refl asks) empty
 
-pub returns-in-Judge : goal.returns-in-Judge
-returns-in-Judge g c = λ own offered recorded empty.
+pub returns-in-Judge-clause-prepares : goal.returns-in-Judge-clause-prepares
+returns-in-Judge-clause-prepares g c = λ own offered recorded empty.
     let judge = c.in-Judge in
     let some = c.in-Ok-Some.field-0-is ∙ ap Some judge.is in
     let asks = asks-as c.args.words.now _ (commands.Judge judge.name) c.in-Ok-Some.ensures.words some in
     c.in-Err-load-2.ensures c.args.words.now own recorded offered.kinds_are (on-file c.args.words.now (Judge judge.name.now) judge.name.now refl asks) empty
 
-pub returns-in-Replay : goal.returns-in-Replay
-returns-in-Replay g c = λ own offered recorded empty.
+pub returns-in-Replay-clause-prepares : goal.returns-in-Replay-clause-prepares
+returns-in-Replay-clause-prepares g c = λ own offered recorded empty.
     let replay = c.in-Replay in
     let some = c.in-Ok-Some.field-0-is ∙ ap Some replay.is in
     c.in-Err-replayable.ensures c.args.words.now own recorded offered.kinds_are (asks-as c.args.words.now _ (commands.Replay replay.net replay.journal replay.tapes) c.in-Ok-Some.ensures.words some) empty
 
-pub returns-in-Ok-load : goal.returns-in-Ok-load
-returns-in-Ok-load g c = λ own offered.
+pub returns-in-Ok-load-clause-prepares : goal.returns-in-Ok-load-clause-prepares
+returns-in-Ok-load-clause-prepares g c = λ own offered.
     let check = c.in-Check in
     let some = c.in-Ok-Some.field-0-is ∙ ap Some check.is in
     let asks = asks-as c.args.words.now _ (commands.Check check.name) c.in-Ok-Some.ensures.words some in
@@ -42,8 +42,8 @@ returns-in-Ok-load g c = λ own offered.
     let file = c.in-Ok-load.file in
     (check.name.now, asks, (l.0, file.plan, l.1, offered-file c.args.kinds.now own offered.kinds_are (g.F.Edge.outside c.args.shelf.now).files check.name.now l.0 file.text file.plan l.2))
 
-pub returns-in-Ok-load-2 : goal.returns-in-Ok-load-2
-returns-in-Ok-load-2 g c = λ own offered.
+pub returns-in-Ok-load-2-clause-prepares : goal.returns-in-Ok-load-2-clause-prepares
+returns-in-Ok-load-2-clause-prepares g c = λ own offered.
     let judge = c.in-Judge in
     let some = c.in-Ok-Some.field-0-is ∙ ap Some judge.is in
     let asks = asks-as c.args.words.now _ (commands.Judge judge.name) c.in-Ok-Some.ensures.words some in
@@ -51,8 +51,8 @@ returns-in-Ok-load-2 g c = λ own offered.
     let file = c.in-Ok-load-2.file in
     (judge.name.now, asks, (l.0, file.text, l.1, offered-file c.args.kinds.now own offered.kinds_are (g.F.Edge.outside c.args.shelf.now).files judge.name.now l.0 file.text file.plan l.2))
 
-pub returns-in-Ok-replayable : goal.returns-in-Ok-replayable
-returns-in-Ok-replayable g c = λ own offered.
+pub returns-in-Ok-replayable-clause-prepares : goal.returns-in-Ok-replayable-clause-prepares
+returns-in-Ok-replayable-clause-prepares g c = λ own offered.
     let replay = c.in-Replay in
     let some = c.in-Ok-Some.field-0-is ∙ ap Some replay.is in
     let asks = asks-as c.args.words.now _ (commands.Replay replay.net replay.journal replay.tapes) c.in-Ok-Some.ensures.words some in
