@@ -28,14 +28,12 @@ fn main(rt: HostRuntime) -> ExitCode {
         return ExitCode::from(Status::NoMemory.code());
     }
     let mut out = StdSink::new(&rt);
-    let Ok(outcome) = call(&rt, alloc, &words, &mut shelf, &mut out) else {
+    let mut err = StdSink::new(rt.stderr());
+    let Ok(outcome) = call(&rt, alloc, &words, &mut shelf, &mut out, &mut err) else {
         return ExitCode::from(Status::NoMemory.code());
     };
     let status = outcome.status;
-    let reason = match out.reason() {
-        Some(reason) => Some(reason),
-        None => shelf.reason(),
-    };
+    let reason = out.reason().or(err.reason()).or(shelf.reason());
     explain(alloc, &rt, &words, status, reason);
     ExitCode::from(status.code())
 }

@@ -202,7 +202,7 @@ bytes-played laws by s p = at (slice_get s.kept.processes p) ∙ ap (λ (found :
 
 -- What is told of a state is told of it with the players.
 told-played : Players → (by : ℕ → Taped) (plan : Network) (s : State AnyKind) (told : PrintedReport) → IsToldOf plan s told → IsToldOf plan (played by s) told
-told-played laws by plan s told is = record { report = is.report; tells = laws.told by plan s is.report is.tells; verdict = is.verdict; text = is.text }
+told-played laws by plan s told is = record { report = is.report; tells = laws.told by plan s is.report is.tells; verdict = is.verdict; text = is.text; brief = is.brief }
 
 -- parts at the start
 from-fresh : (component : AnyKind) → IsFresh component → IsPart component

@@ -75,13 +75,16 @@ fn call_flow<R: Threads + Wait + Sync>(
     let words = words_of(alloc, line)?;
     let mut shelf = around.shelf()?;
     let mut out = around.sink()?;
+    let mut err = around.err_sink()?;
     let own = own_kinds(alloc, around.parts)?;
     let outcome = if needs_workers(alloc, &words)? {
-        busy_top(rt, alloc, &words, &mut shelf, &mut out, &NoGate, own)
+        busy_top(
+            rt, alloc, &words, &mut shelf, &mut out, &mut err, &NoGate, own,
+        )
     } else {
-        plain_top(alloc, &words, &mut shelf, &mut out, own)
+        plain_top(alloc, &words, &mut shelf, &mut out, &mut err, own)
     };
-    Ok(Came::of(alloc, &outcome, shelf, &out)?)
+    Ok(Came::of(alloc, &outcome, shelf, &out, &err)?)
 }
 
 // What the program `draw` does with these words.

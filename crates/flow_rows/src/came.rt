@@ -38,8 +38,10 @@ impl Came {
         outcome: &Outcome,
         shelf: MemShelf,
         out: &MemSink,
+        err: &MemSink,
     ) -> Result<Came, AllocError> {
         let mut came = Came::printed(alloc, outcome.status, out.bytes().to_vec(alloc)?, shelf);
+        came.told = err.bytes().to_vec(alloc)?;
         came.turns = outcome.journal.turns.len();
         for number in outcome.journal.seen.as_slice() {
             came.seen.push(u64::from(*number))?;
