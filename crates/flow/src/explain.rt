@@ -1,7 +1,7 @@
 //! What the program says besides on the standard error: what a person needs to find a fault. No contract speaks of it,
 //! and it never changes how the program ends.
 use crate::own::{PARTS, own_kinds};
-use crate::words::{put_help, put_wrong};
+use crate::words::put_wrong;
 use flow_cli::Status;
 use flow_explain::{put_refusal, put_too_large};
 use flow_limits::FILE_LIMIT;
@@ -11,6 +11,8 @@ use flow_words::{Command, command};
 use std::alloc::{AllocError, Global};
 use std::fs::{File, Files};
 use std::io;
+
+const HELP: &str = "flow --help prints what can be asked for.\n";
 
 const OTHER_RUN: &str =
     "A journal is replayed with the network file and the input files of its own run.\n";
@@ -51,7 +53,7 @@ fn page<R: Files<File = File> + Eprint + Drop>(
     match status {
         Status::Words => {
             put_wrong(alloc, &mut page, words)?;
-            put_help(&mut page)?;
+            page.push_str(HELP)?;
         }
         Status::Refused => {
             if let Some(name) = net_named(alloc, words) {
