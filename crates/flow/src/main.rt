@@ -10,7 +10,7 @@ mod explain;
 mod own;
 mod words;
 
-use crate::explain::explain;
+use crate::explain::{Fault, explain};
 use crate::own::call;
 use flow_cli::Status;
 use flow_explain::{expect_kept, words_of};
@@ -33,7 +33,11 @@ fn main(rt: HostRuntime) -> ExitCode {
         return ExitCode::from(Status::NoMemory.code());
     };
     let status = outcome.status;
-    let reason = out.reason().or(err.reason()).or(shelf.reason());
-    explain(alloc, &rt, &words, status, reason);
+    let printing = out.reason().or(err.reason());
+    let fault = Fault {
+        reason: printing.or(shelf.reason()),
+        file: if printing.is_none() { shelf.last() } else { None },
+    };
+    explain(alloc, &rt, &words, status, fault);
     ExitCode::from(status.code())
 }
