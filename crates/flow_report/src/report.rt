@@ -208,7 +208,7 @@ impl Report {
         ensures { IfOk result (λ text. text.items ≡ brief_text self.now) }
     {
         let left = self.left.as_slice();
-        let named = left.len().min(BRIEF_LEFT);
+        let named = BRIEF_LEFT.min(left.len());
         let mut text = self.head()?;
         self.put_left(&mut text, &left[..named])?;
         put_more(&mut text, (left.len() - named) as u64)?;
