@@ -21,6 +21,7 @@ const OTHER_TAPES: &str =
     "A replay takes the file of tapes that its own run wrote by --tapes; a network without components of one's own needs none.\n";
 
 /// What is known of a fault besides the status: what the system answered, and the file at which it did.
+#[derive(Clone, Copy)]
 pub struct Fault<'a> {
     pub reason: Option<io::Error>,
     pub file: Option<&'a str>,

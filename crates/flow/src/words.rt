@@ -165,11 +165,9 @@ fn named(name: &str) -> Option<Asked> {
     OPTIONS.iter().find(|option| option.name == name).copied()
 }
 
-// Whether one of two options asks for a page.
-fn are_pages(one: &Asked, other: &Asked) -> bool {
-    PAGES
-        .iter()
-        .any(|page| *page == one.name || *page == other.name)
+// Whether an option asks for a page.
+fn is_page(option: &Asked) -> bool {
+    PAGES.iter().any(|page| *page == option.name)
 }
 
 // Whether a word is neither a name nor a value.
@@ -277,7 +275,8 @@ impl<'a> Read<'a> {
             return say(page, option.name, " is given twice.\n");
         }
         for given in &self.given {
-            if !are_pages(given, &option) && !given.beside.iter().any(|name| *name == option.name) {
+            let pages = is_page(given) || is_page(&option);
+            if !pages && !given.beside.iter().any(|name| *name == option.name) {
                 page.push_str(given.name)?;
                 page.push_str(" and ")?;
                 return say(page, option.name, " don't go together.\n");
@@ -301,7 +300,7 @@ impl<'a> Read<'a> {
             missing(page, option)?;
             return Ok(());
         }
-        if self.given.iter().any(|given| PAGES.contains(&given.name)) {
+        if self.given.iter().any(is_page) {
             return Ok(());
         }
         let without = self.given.iter().find(|given| !given.takes_net);

@@ -86,11 +86,11 @@ pub fn print_text<O: Sink, E: Sink>(
 ) -> Status
     ensures { Prints (outputs_at (O.outside out.old) (E.outside err.old)) (outputs_at (O.outside out.new) (E.outside err.new)) text.now remark.now status result }
 {
-    if write_all(out, text).is_err() {
-        return Status::WriteFault;
-    }
-    match write_all(err, remark) {
-        Ok(()) => status,
+    match write_all(out, text) {
+        Ok(()) => match write_all(err, remark) {
+            Ok(()) => status,
+            Err(WriteStop::Fault(_)) => Status::WriteFault,
+        },
         Err(WriteStop::Fault(_)) => Status::WriteFault,
     }
 }

@@ -92,7 +92,10 @@ fn word_of(asked: &Command<'_>, file: &str, used: Use) -> Option<&'static str> {
 }
 
 fn is(name: Option<&str>, file: &str) -> bool {
-    name == Some(file)
+    match name {
+        Some(name) => name == file,
+        None => false,
+    }
 }
 
 // The name that a line gives as a text, if it gives this one.
@@ -135,8 +138,10 @@ fn put_line_of(
 fn is_for(alloc: Global, net: &[u8], found: &Found<'_>, used: Use) -> Result<bool, AllocError> {
     match found.said.to {
         Some(mention) => {
-            let kind = kind_of(alloc, net, found.part, mention.process)?;
-            Ok(kind == Some(used.kind()))
+            match kind_of(alloc, net, found.part, mention.process)? {
+                Some(kind) => Ok(kind == used.kind()),
+                None => Ok(false),
+            }
         }
         None => Ok(false),
     }
