@@ -3,7 +3,7 @@
 use crate::own::{PARTS, own_kinds};
 use crate::words::put_wrong;
 use flow_cli::Status;
-use flow_explain::{Use, net_of, put_named, put_refusal, put_too_large};
+use flow_explain::{Use, net_of, put_folders, put_named, put_refusal, put_too_large};
 use flow_limits::FILE_LIMIT;
 use flow_number::number_is_an_own_kind;
 use flow_tape::TAPE_FILE_LIMIT;
@@ -25,6 +25,14 @@ const OTHER_TAPES: &str =
 pub struct Fault<'a> {
     pub reason: Option<io::Error>,
     pub file: Option<&'a str>,
+}
+
+/// Tells before a run which of its files can't be written, since their folders aren't there.
+pub fn foresee<R: Files<File = File> + Eprint + Drop>(alloc: Global, rt: &R, words: &[String]) {
+    let mut page = String::new(alloc);
+    if put_folders(alloc, rt, &mut page, words).is_ok() && !page.is_empty() {
+        let _ = rt.eprint(page);
+    }
 }
 
 /// Explains a status, where there is more to say than its line on the standard output. What can't be said, for want of

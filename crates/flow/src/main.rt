@@ -10,7 +10,7 @@ mod explain;
 mod own;
 mod words;
 
-use crate::explain::{Fault, explain};
+use crate::explain::{Fault, explain, foresee};
 use crate::own::call;
 use flow_cli::Status;
 use flow_explain::{expect_kept, words_of};
@@ -27,6 +27,7 @@ fn main(rt: HostRuntime) -> ExitCode {
     if expect_kept(alloc, &mut shelf, &words).is_err() {
         return ExitCode::from(Status::NoMemory.code());
     }
+    foresee(alloc, &rt, &words);
     let mut out = StdSink::new(&rt);
     let mut err = StdSink::new(rt.stderr());
     let Ok(outcome) = call(&rt, alloc, &words, &mut shelf, &mut out, &mut err) else {

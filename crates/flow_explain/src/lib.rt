@@ -6,6 +6,7 @@
 
 mod bytes;
 mod called;
+mod folders;
 mod forms;
 mod found;
 mod inside;
@@ -27,6 +28,7 @@ mod shown;
 mod words;
 
 pub use called::{expect_kept, words_of};
+pub use folders::put_folders;
 pub use named::{Use, net_of, put_named};
 pub use near::nearest;
 pub use refusal::{put_refusal, put_too_large};

@@ -147,8 +147,8 @@ fn is_for(alloc: Global, net: &[u8], found: &Found<'_>, used: Use) -> Result<boo
     }
 }
 
-// Shows a line, and names its process.
-fn put_process_of(page: &mut String, found: &Found<'_>) -> Result<(), AllocError> {
+/// Shows a line, and names its process.
+pub fn put_process_of(page: &mut String, found: &Found<'_>) -> Result<(), AllocError> {
     put_found(page, found)?;
     match found.said.to {
         Some(mention) => put_between(page, "This is the file of the process ", mention.process, ".\n"),
