@@ -38,7 +38,7 @@ use Rattle.flow_cli.specs.Live.{AnyNet}
 use Rattle.flow_load.specs.Components.{AreComponents, AreLive, IsLiveComponent, IsPlayedComponent}
 use Rattle.flow_load.specs.Offers.{AnyKind, Taped, Recorded, known, live_rules}
 use Rattle.flow_cli.specs.Leaves.{AreTapesOfNet, IsJournalOfNet, IsRecordedAt, IsToldOf, IsToldOfNet, Leaves, tape_by}
-use Rattle.flow_load.specs.Runs.{bytes_in, written_in}
+use Rattle.flow_load.specs.Runs.{HasPlayedOut, bytes_in, written_in}
 use Rattle.flow_cli.specs.Top.{recorded_by}
 use Rattle.flow_cli.specs.declared.ran.PrintedReport.{PrintedReport}
 use Rattle.flow_cli.specs.declared.ran.Ran.{Ran}
@@ -200,6 +200,20 @@ bytes-played laws by s p = at (slice_get s.kept.processes p) ∙ ap (λ (found :
     at None = refl
     at (Some x) = ap (λ (w : Option (List ℕ)). unwrap_or w []) (wrote-same by p x.component)
 
+-- The player of a whole tape, at the place to which that tape had come, has given all of it.
+gave-all : (by : ℕ → Taped) (p : ℕ) (component : AnyKind) → HasTape by p component → HasPlayedOut (played_by by p component)
+gave-all by p (Other component) has = tt
+gave-all by p (Own value) has = ap (λ (tape : Taped). Some (length tape)) has.1
+
+all-played : Players → (by : ℕ → Taped) (s : State AnyKind) → TapesOf by s → OfEach (λ p. HasPlayedOut) (played by s)
+all-played laws by s of p x there = at (slice_get s.kept.processes p) refl (sym (laws.in_place by s p) ∙ there)
+  where
+    at : (found : Option (Process AnyKind)) → slice_get s.kept.processes p ≡ found → option_map (λ y. with_component y (played_by by p y.component)) found ≡ Some x → HasPlayedOut x.component
+    at None found is = absurd cc
+    at (Some y) found is =
+        let same : with_component y (played_by by p y.component) ≡ x = cc in
+        subst (λ (z : Process AnyKind). HasPlayedOut z.component) same (gave-all by p y.component (of p y found))
+
 -- What is told of a state is told of it with the players.
 told-played : Players → (by : ℕ → Taped) (plan : Network) (s : State AnyKind) (told : PrintedReport) → IsToldOf plan s told → IsToldOf plan (played by s) told
 told-played laws by plan s told is = record { report = is.report; tells = laws.told by plan s is.report is.tells; verdict = is.verdict; text = is.text }
@@ -237,6 +251,7 @@ leaves-one laws own workers plan given live net recorded told valid tell sees we
       are_components = are-players own plan given live by recorded.tapes taped.tapes_are are;
       last = played by last;
       run = laws.runs by workers plan (known live) (schedule_of recorded.journal) last well fresh_all of comes.run;
+      played_out = all-played laws by last of;
       told_is = told-played laws by plan last told (told-of live_rules plan net last told valid tell comes.fit comes.count reached is);
       wrote = λ p. bytes-same net.bodies last.kept.processes p procs ∙ bytes-played laws by last p;
       writable = has-file live_rules plan (known live) net recorded.journal last sees comes.run.schedule names;

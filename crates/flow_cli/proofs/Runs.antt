@@ -28,6 +28,7 @@ module _ (o a n : Outside) (words : List (String Global)) (own : List Offer) (ru
     components = has.leaves.components;
     are_components = has.leaves.are_components;
     run = has.leaves.run;
+    played_out = has.leaves.played_out;
     writable = has.leaves.writable;
     tapes_writable = has.leaves.tapes_writable;
   }

@@ -8,6 +8,7 @@ use Rattle.flow_plan.specs.declared.kind.KindSpec.{KindSpec}
 use Rattle.flow_offer.specs.Processes.{own_place, own_processes}
 use Rattle.flow_tape.specs.Files.{IsWritable as IsTapesWritable}
 use Rattle.flow_model.specs.States.{State}
+use Rattle.flow_model.specs.Replaced.{OfEach}
 use Rattle.flow_machine.specs.Values.{BodyValue, NetValue}
 use Rattle.flow_journal.specs.Files.{IsWritable}
 use Rattle.flow_journal.specs.Journals.{NamesTurns, NamesSeen}
@@ -22,7 +23,7 @@ use Rattle.flow_load.specs.Offers.{AnyKind, Taped, Recorded, net_rules}
 use Rattle.flow_load.specs.Components.{AreComponents}
 use Rattle.flow_cli.specs.declared.ran.PrintedReport.{PrintedReport}
 use Rattle.flow_load.specs.declared.stop.Stop.{Stop}
-use Rattle.flow_load.specs.Runs.{RunsTo, outputs_from, written_in, bytes_in}
+use Rattle.flow_load.specs.Runs.{RunsTo, HasPlayedOut, outputs_from, written_in, bytes_in}
 use Rattle.flow_load.specs.Causes.{StopsAgain}
 
 -- What is told of a run is the report of its last state.
@@ -65,12 +66,14 @@ abbrev pub net_outputs : Network → NetValue AnyKind → List Filled
 net_outputs plan net = outputs_from (bytes_at net.bodies) 0 plan.processes
 
 -- A run by so many workers, on what its readers were given, has left a net, a journal with tapes, and what is told of it. The journal is that of the run in which each component
--- of the caller's own is the player of its tape, and has a file, as the tapes have; the report is that of its last state, and each process wrote the same there.
+-- of the caller's own is the player of its tape, and has a file, as the tapes have; in its last state each player has given its whole tape, the report is that of this state, and each
+-- process wrote the same there.
 pub record Leaves (own : List KindSpec) (workers : ℕ) (plan : Network) (given : List (List ℕ)) (net : NetValue AnyKind) (recorded : Recorded) (told : PrintedReport) : Type 0 where
   pub components : List AnyKind
   pub are_components : AreComponents own plan given recorded.tapes components
   pub last : State AnyKind
   pub run : RunsTo workers plan components recorded.journal last
+  pub played_out : OfEach (λ p. HasPlayedOut) last
   pub told_is : IsToldOf plan last told
   pub wrote : (p : ℕ) → bytes_at net.bodies p ≡ bytes_in last p
   pub writable : IsWritable recorded.journal

@@ -15,6 +15,7 @@ use Rattle.flow_offer.specs.Shares.{IsFirstWithout}
 use Rattle.flow_parse.specs.declared.value.NetText.{NetText}
 use Rattle.flow_model.specs.States.{State}
 use Rattle.flow_model.specs.Plans.{start_of}
+use Rattle.flow_model.specs.Replaced.{OfEach}
 use Rattle.flow_journal.specs.Files.{IsWritable}
 use Rattle.flow_journal.specs.Replays.{schedule_of, StopsAtTurn}
 use Rattle.flow_journal.specs.declared.merge.Journal.{Journal}
@@ -25,7 +26,7 @@ use Rattle.flow_load.specs.Offers.{AnyKind, Offer, Recorded, Taped, IsNothing, n
 use Rattle.flow_load.specs.Components.{AreComponents}
 use Rattle.flow_load.specs.Networks.{RefusedFor}
 use Rattle.flow_load.specs.Reads.{Asks, IsCommand, IsFile, IsJournalFile, AreTapes, IsReady, IsLimitedNext, IsNextFile, ShowsFault}
-use Rattle.flow_load.specs.Runs.{RunsTo, files_of_run}
+use Rattle.flow_load.specs.Runs.{RunsTo, HasPlayedOut, files_of_run}
 use Rattle.flow_load.specs.declared.stop.NetRefusal.{NetRefusal}
 use Rattle.flow_load.specs.declared.stop.JournalRefusal.{JournalRefusal}
 use Rattle.flow_load.specs.declared.stop.JournalRefusal.TheVariants.{Byte, Turn}
@@ -43,13 +44,15 @@ pub record Work : Type 0 where
   pub recorded : Recorded
 
 -- The run that was asked for was made, on what its input files gave. This is its plan; these are its components, each of the caller's own replaced by the player of the tape that this
--- run recorded of it; this is the state to which the journal leads from there; and so stood the shelf when all was read. The journal has a file, and so have the tapes.
+-- run recorded of it; this is the state to which the journal leads from there, and there each player has given its whole tape; and so stood the shelf when all was read. The journal has a
+-- file, and so have the tapes.
 pub record IsRunOf (w : Work) (asked : AskedRun) (plan : Network) (last : State AnyKind) (middle : Outside) : Type 0 where
   pub given : List (List ℕ)
   pub ready : IsReady (specs_of w.own) w.before middle asked.net [] plan given
   pub components : List AnyKind
   pub are_components : AreComponents (specs_of w.own) plan given w.recorded.tapes components
   pub run : RunsTo asked.workers plan components w.recorded.journal last
+  pub played_out : OfEach (λ p. HasPlayedOut) last
   pub writable : IsWritable w.recorded.journal
   pub tapes_writable : IsTapesWritable w.recorded.tapes
 

@@ -1,5 +1,5 @@
 -- A run as it is asked for: its turns from the start of a network to the state in which no process can go on, and the files of that state and of the run.
-use Rattle.std.specs.Prelude.{◌+◌, ◌++◌, ℕ, List, [], ◌∷◌, Some, None, map, slice_get, unwrap_or, option_and_then}
+use Rattle.std.specs.Prelude.{◌≡◌, ◌+◌, ◌++◌, ℕ, List, [], ◌∷◌, Some, None, length, map, slice_get, unwrap_or, option_and_then}
 use Rattle.std.specs.declared.option.Option.{Option}
 use Rattle.flow_text.specs.Edge.{Name}
 use Rattle.flow_plan.specs.declared.plan.Process.{Process}
@@ -20,6 +20,11 @@ use Rattle.flow_load.specs.Components.{written_by}
 -- This is the journal of the run of a plan with these components by so many workers, of which none is one thread; and this the state to which it leads.
 abbrev pub RunsTo : ℕ → Network → List AnyKind → Journal → State AnyKind → Type 0
 RunsTo workers plan components journal last = IsRun net_rules workers plan components (schedule_of journal) last
+
+-- A component of the caller's own is a player that has given its whole tape.
+abbrev pub HasPlayedOut : AnyKind → Type 0
+HasPlayedOut (Other component) = Unit {0}
+HasPlayedOut (Own own) = own.place ≡ Some (length own.tape)
 
 -- The file that a process writes, with its bytes, if it writes one; where `wrote` says what each process wrote.
 abbrev pub outputs_at : (ℕ → List ℕ) → ℕ → Process → List Filled

@@ -22,9 +22,10 @@ use Rattle.flow_journal.specs.Files.{HasOneJournal}
 use Rattle.flow_journal.specs.Replays.{schedule_of}
 use Rattle.flow_journal.specs.Runs.{IsScheduled}
 use Rattle.flow_journal.specs.declared.merge.Journal.{Journal}
-use Rattle.flow_own.specs.Mixed.{Other}
+use Rattle.flow_own.specs.Mixed.{Other, Own}
 use Rattle.flow_tape.specs.Files.{IsWritable as IsTapesWritable}
-use Rattle.flow_played.specs.Others.{others, as_mixed}
+use Rattle.flow_played.specs.Others.{IsOther, others, as_mixed}
+use Rattle.flow_played.proofs.Others.{all-other}
 use Rattle.flow_played.specs.Plain.{AllRunAsTheyAre, TellsAsItIs}
 use Rattle.flow_offer.specs.Kinds.{AreOwnKinds}
 use Rattle.flow_offer.specs.Processes.{IsOfferedPlan}
@@ -34,7 +35,7 @@ use Rattle.flow_load.specs.Step.{Filled, whole, IsRead}
 use Rattle.flow_load.specs.Offers.{AnyKind, Recorded, Taped, net_rules}
 use Rattle.flow_load.specs.Components.{AreComponents, IsComponent, IsPlayedComponent}
 use Rattle.flow_load.specs.Many.{replaced_all}
-use Rattle.flow_load.specs.Runs.{kept_files}
+use Rattle.flow_load.specs.Runs.{HasPlayedOut, kept_files}
 use Rattle.flow_load.specs.Reads.{IsFile, IsJournalFile, IsReady}
 use Rattle.flow_cli.specs.Top.{Call, answer}
 use Rattle.flow_load.proofs.NoKinds.{none-own}
@@ -63,6 +64,11 @@ no-kinds = record {
 -- The plan is one over the standard kinds alone.
 offered : IsOfferedPlan [] balance
 offered = record { are_own = no-kinds; valid = valid; over = subst (λ (kinds : List KindSpec). IsOver kinds balance) (sym (append-nil std_kinds)) over }
+
+-- A component that isn't the caller's own is no player.
+no-player : (component : AnyKind) → IsOther component → HasPlayedOut component
+no-player (Other component) other = tt
+no-player (Own value) other = absurd other
 
 -- The bytes for each process: the reader's file, and none for the others.
 abbrev given : List (List ℕ)
@@ -322,6 +328,7 @@ module _ (starts : StartsPlans std_rules) (prefixes : KeepsPrefixes std_rules) (
             are_components = any_are;
             run = ((plain balance balance_components).runs workers (schedule_of balance_journal) balance_last).0
                 (record { schedule = scheduled; quiet = balance_quiet; robin = λ none. balance_robin });
+            played_out = λ p x there. no-player x.component (all-other balance_last p x there);
             writable = is_file.writable;
             tapes_writable = no_tapes;
           };
