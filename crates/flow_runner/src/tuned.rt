@@ -9,7 +9,8 @@ pub(crate) const BURST_LIMIT: u32 = 256;
 /// is little beside it.
 pub(crate) const BURST_MICROS: u64 = 20;
 
-/// Bursts get no shorter at a time than by this. A worker from which the system took its processor for a while looks as one whose turns are long.
+/// Bursts get no shorter at a time than to this part of their length. A worker from which the system took its processor for a while looks as one whose
+/// turns are long.
 pub(crate) const SHORTENED_BY: u64 = 4;
 
 /// Where nobody rests who could tell it how long its turns are, a worker makes twice as many turns a burst after so many bursts of one length.
