@@ -158,7 +158,7 @@ fn record<P: Part>(
     if tape.entries.reserve(1).is_err() {
         return Err(Stop::NoMemory);
     }
-    if tape.entries.len() + 1 == TAPE_LIMIT {
+    if tape.len() + 1 == TAPE_LIMIT {
         let last = last_entry(alloc, answer);
         let end = last.end;
         tape.entries.push_reserved(last);
@@ -244,7 +244,7 @@ impl<P: Part> Own<P> {
     {
         let shape = self.shape;
         let end = play(
-            &self.tape,
+            &mut self.tape,
             place,
             shape,
             self.used.as_slice(),

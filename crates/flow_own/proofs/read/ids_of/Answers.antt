@@ -1,8 +1,8 @@
 use Rattle.std.proofs.Common.{◌≡◌, ℕ, ◌++◌, ◌∷◌, [], ◌∙◌, ap}
 use Rattle.std.proofs.lemmas.Result.{err_from_is_err_and}
-use Rattle.flow_tape.specs.Reading.{many_at, id_at}
-use Rattle.flow_tape.proofs.Loops.{goes_on, stops_here, all_read}
-use Rattle.flow_tape.proofs.parse.ids_of.Goals as goal
+use Rattle.flow_own.specs.Reading.{many_at, id_at}
+use Rattle.flow_own.proofs.Many.{goes_on, stops_here, all_read}
+use Rattle.flow_own.proofs.read.ids_of.Goals as goal
 
 pub returns-in_err-id : goal.returns-in_err-id
 returns-in_err-id c =

@@ -1,29 +1,12 @@
-//! The fields of a tape file, off the front of its bytes.
+//! The fields of an entry, off the front of its bytes.
 
 ghost use Rattle.std.specs.Prelude.{◌≡◌, ◌≤◌, IfOk};
 ghost use Rattle.std.specs.Int.{w8, w16, w32, w64};
-ghost use Rattle.flow_tape.specs.Reading.{Gives, letters_at, number_at, text_at, any_at, id_at};
+ghost use Rattle.flow_own.specs.Reading.{Gives, number_at, text_at, any_at, id_at};
 
-use crate::fault::Unread;
+use crate::unread::Unread;
 use flow_items::Text;
 use std::alloc::Global;
-
-// These letters.
-pub(crate) fn letters_of<'a>(letters: &[u8], bytes: &'a [u8]) -> Result<&'a [u8], Unread>
-    ensures { Gives (λ rest. (tt, rest.now)) result (letters_at letters.now bytes.now) }
-{
-    let mut rest = bytes;
-    for letter in letters {
-        let Some((first, after)) = rest.split_first() else {
-            return Err(Unread::Fault(0));
-        };
-        if *first != *letter {
-            return Err(Unread::Fault(rest.len()));
-        }
-        rest = after;
-    }
-    Ok(rest)
-}
 
 // A number of one byte.
 pub(crate) fn one_of(bytes: &[u8], most: u8) -> Result<(u8, &[u8]), Unread>
@@ -53,8 +36,8 @@ pub(crate) fn two_of(bytes: &[u8], most: u16) -> Result<(u16, &[u8]), Unread>
     Ok((number, rest))
 }
 
-// A number of four bytes.
-pub(crate) fn four_of(bytes: &[u8], most: u32) -> Result<(u32, &[u8]), Unread>
+/// A number of four bytes that is no more than the most, and the bytes behind it.
+pub fn four_of(bytes: &[u8], most: u32) -> Result<(u32, &[u8]), Unread>
     ensures { Gives (λ x. (x.0, x.1.now)) result (number_at w32 most bytes.now) }
 {
     let Some((number, rest)) = bytes.split_first_chunk::<4>() else {

@@ -1,7 +1,7 @@
 use Rattle.std.proofs.lemmas.List.{nil_from_length}
 use Rattle.flow_tape.specs.Reading.{letters_at}
 use Rattle.flow_tape.proofs.Loops.{letter_on, letter_ends, letter_strays, letters_read}
-use Rattle.flow_tape.proofs.fields.letters_of.Goals as goal
+use Rattle.flow_tape.proofs.letters.letters_of.Goals as goal
 
 pub returns-in_default : goal.returns-in_default
 returns-in_default c =
