@@ -5,7 +5,7 @@ ghost use Rattle.std.specs.Prelude.{◌≡◌, ◌+◌, ◌<◌, ◌≤◌, leng
 use crate::lines::{Lines, Post};
 use crate::tuned::{BURST_LIMIT, BURSTS_OF_A_LENGTH, CALLS_UP_TO};
 
-/// Where a worker that isn't alone tells how many turns it made, and is told how many of them its bursts should have.
+/// Where a worker that isn't alone tells how many turns it made, and is told how many of them its bursts have.
 #[derive(Clone, Copy)]
 pub(crate) struct Home<'a> {
     post: &'a Post,
@@ -40,7 +40,7 @@ impl<'a> Stint<'a> {
         }
     }
 
-    /// A worker at the post of this number, where there are several: its bursts are short until it knows more.
+    /// A worker at the post of this number: where there are several, its bursts are as long as it is told there.
     pub(crate) fn among(left: u64, lines: &'a Lines, number: usize) -> Stint<'a>
         requires { number < length (posts_of lines.now) }
         ensures { result.left ≡ left }
@@ -59,29 +59,29 @@ impl<'a> Stint<'a> {
     }
 
     /// How many turns the next burst may have.
-    pub(crate) fn next(&self) -> u32
-        requires { 1 ≤ self.now.left }
+    pub(crate) fn next(&mut self) -> u32
+        requires { 1 ≤ self.old.left }
         ensures least { 1 ≤ result }
-        ensures most { result ≤ self.now.left }
+        ensures most { result ≤ self.new.left }
+        ensures left { self.new.left ≡ self.old.left }
     {
+        if let Some(home) = self.home {
+            self.burst = home.post.burst();
+        }
         self.left.min(self.burst as u64) as u32
     }
 
-    /// How long bursts are from now on: as was told, or twice as long as before, where nobody rests who could tell, and that was so for a while.
-    fn hears(&mut self, home: Home<'a>)
+    /// Where nobody rests who could tell how long bursts should be, and that was so for a while, they are twice as long from now on.
+    fn lengthens(&mut self, home: Home<'a>)
         ensures { self.new.left ≡ self.old.left }
     {
-        let told = home.post.burst();
-        if told > 0 {
-            home.post.set_burst(0);
-            self.burst = told.min(BURST_LIMIT as u64) as u32;
-            self.bursts = 0;
+        self.bursts = self.bursts.saturating_add(1);
+        if self.bursts < BURSTS_OF_A_LENGTH {
             return;
         }
-        self.bursts = self.bursts.saturating_add(1);
-        if self.bursts >= BURSTS_OF_A_LENGTH && !home.lines.bell.somebody_sleeps() {
-            self.burst = self.burst.saturating_mul(2).min(BURST_LIMIT);
-            self.bursts = 0;
+        self.bursts = 0;
+        if self.burst < BURST_LIMIT && !home.lines.bell.somebody_sleeps() {
+            home.post.set_burst(self.burst as u64 * 2);
         }
     }
 
@@ -99,6 +99,6 @@ impl<'a> Stint<'a> {
         if pushed && self.burst <= CALLS_UP_TO {
             home.lines.call();
         }
-        self.hears(home);
+        self.lengthens(home);
     }
 }

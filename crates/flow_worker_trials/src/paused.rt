@@ -34,7 +34,7 @@ fn begun<R: Threads + Wait + Sync>(rt: &R, alloc: Global, budget: u64) -> Result
 {
     let net = started(alloc, NET, INPUT)?;
     match run_for(rt, alloc, net, 2, &NoGate, budget) {
-        Ok(closed) => Ok(closed),
+        Ok(worked) => Ok(worked.into_closed()),
         Err(_) => Err("no memory".into()),
     }
 }
