@@ -1,8 +1,8 @@
 //! Networks side by side, whose readers wait for one another at a gate: one thread alone can't bring them all there.
 use flow_component::Gate;
-use flow_rig::{File, call_by_workers};
+use flow_rig::{Called, File, call_by_workers};
+use std::process::Abort;
 use std::sync::atomic::{AtomicU64, Ordering};
-use std::test::Fail;
 use std::thread;
 
 /// How often a process that waits looks whether the others have come.
@@ -84,28 +84,33 @@ const FOUR: &[File<'static>] = &[
     ("i", b"x\ny\n"),
 ];
 
-#[test]
-fn gate_holds_two(rt: HostRuntime) -> Result<(), Fail> {
-    let gate = Meeting::new(2);
-    let called = call_by_workers(&rt, rt.alloc(), &["--workers", "2", "net"], TWO, &gate)?;
+fn check_gate(rt: &impl Abort, gate: &Meeting, called: &Called, names: &[&str]) {
     assert_eq!(rt; called.status, 0);
     assert!(rt; gate.is_full());
-    assert_eq!(rt; gate.alone.load(Ordering::SeqCst), 0);
-    for name in ["v", "w"] {
-        assert!(rt; called.shelf.file(name) == Some(b"x\ny\n".as_slice()));
+    assert!(rt; gate.alone.load(Ordering::SeqCst) == 0);
+    for name in names {
+        assert!(rt;
+            called.shelf.file(*name) == Some(b"x\ny\n".as_slice()),
+            "of {name}"
+        );
     }
-    Ok(())
 }
 
 #[test]
-fn gate_holds_four(rt: HostRuntime) -> Result<(), Fail> {
+fn gate_holds_two(rt: HostRuntime) {
+    let gate = Meeting::new(2);
+    let called = call_by_workers(&rt, rt.alloc(), &["--workers", "2", "net"], TWO, &gate);
+    check_gate(&rt, &gate, &called.expect(&rt, "no call"), &["v", "w"]);
+}
+
+#[test]
+fn gate_holds_four(rt: HostRuntime) {
     let gate = Meeting::new(4);
-    let called = call_by_workers(&rt, rt.alloc(), &["--workers", "4", "net"], FOUR, &gate)?;
-    assert_eq!(rt; called.status, 0);
-    assert!(rt; gate.is_full());
-    assert_eq!(rt; gate.alone.load(Ordering::SeqCst), 0);
-    for name in ["v", "w", "x", "y"] {
-        assert!(rt; called.shelf.file(name) == Some(b"x\ny\n".as_slice()));
-    }
-    Ok(())
+    let called = call_by_workers(&rt, rt.alloc(), &["--workers", "4", "net"], FOUR, &gate);
+    check_gate(
+        &rt,
+        &gate,
+        &called.expect(&rt, "no call"),
+        &["v", "w", "x", "y"],
+    );
 }
