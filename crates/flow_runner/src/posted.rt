@@ -61,7 +61,7 @@ fn tend_one<K: Component, G: Gate, R: Wait>(
     ensures spends { Spends (turns_of server.old.worker) stint.old.left (turns_of server.new.worker) stint.new.left }
 {
     server.watch.begins(lines, process);
-    stint.begins(process);
+    stint.tends(process);
     let own = server.watch.number;
     tend(
         rt,

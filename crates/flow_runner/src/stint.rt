@@ -29,6 +29,27 @@ pub(crate) struct Stint<'a> {
     pub ghost least: { 1 ≤ burst },
 }
 
+/// As many turns as the bursts of this worker are to have, or as they have where nobody tells it.
+fn told(home: Option<Home<'_>>, burst: u32) -> u32
+    requires { 1 ≤ burst }
+    ensures { 1 ≤ result }
+{
+    match home {
+        Some(home) => home.post.burst(),
+        None => burst,
+    }
+}
+
+/// As many turns as a burst of this pace may have.
+fn paced(pace: Option<&Pace>) -> u32
+    ensures { 1 ≤ result }
+{
+    match pace {
+        Some(pace) => pace.burst(),
+        None => BURST_LIMIT,
+    }
+}
+
 impl<'a> Stint<'a> {
     /// A worker that nobody tells anything: so many turns, in bursts that are as long as can be.
     pub(crate) fn alone(left: u64) -> Stint<'a>
@@ -64,7 +85,7 @@ impl<'a> Stint<'a> {
     }
 
     /// This process is tended from now on.
-    pub(crate) fn begins(&mut self, process: u32)
+    pub(crate) fn tends(&mut self, process: u32)
         ensures { self.new.left ≡ self.old.left }
     {
         if let Some(home) = self.home {
@@ -79,12 +100,7 @@ impl<'a> Stint<'a> {
         ensures most { result ≤ self.new.left }
         ensures left { self.new.left ≡ self.old.left }
     {
-        if let Some(home) = self.home {
-            self.burst = home.post.burst();
-        }
-        if let Some(pace) = self.pace {
-            self.burst = self.burst.min(pace.burst());
-        }
+        self.burst = told(self.home, self.burst).min(paced(self.pace));
         self.left.min(self.burst as u64) as u32
     }
 

@@ -131,7 +131,7 @@ fn try_turns<K: Component, G: Gate, R: Wait>(
     ensures wired { IsWiredAt floor.now held.new }
     ensures may { MayGo floor.now worker.new held.new result }
     ensures same { IsSameWorker worker.old worker.new }
-    ensures adds { Adds stint.old.left result (turns_of worker.old) (turns_of worker.new) }
+    ensures adds { Adds stint.new.left result (turns_of worker.old) (turns_of worker.new) }
     ensures kept { stint.new.left ≡ stint.old.left }
     ensures passed { PassesFirst (G.has_passed gate.now) held.old.body }
     ensures pushes { PushesBut line.now worker.old pass.old (names_of unpushed.old) worker.new pass.new (names_of unpushed.new) }
