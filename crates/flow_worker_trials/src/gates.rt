@@ -72,6 +72,8 @@ impl Gate for Meeting {
 /// A gate that holds a sender behind each of its first sends until a receiver has received as much. Both have two turns before their first packet.
 #[derive(Drop)]
 struct Rendezvous {
+    sender: u32,
+    receiver: u32,
     sends: u64,
     /// After how many turns the receiver thought last.
     come: AtomicU64,
@@ -80,8 +82,10 @@ struct Rendezvous {
 }
 
 impl Rendezvous {
-    fn new(sends: u64) -> Self {
+    fn new(sender: u32, receiver: u32, sends: u64) -> Self {
         Rendezvous {
+            sender,
+            receiver,
             sends,
             come: AtomicU64::new(0),
             alone: AtomicU64::new(0),
@@ -101,9 +105,9 @@ impl Rendezvous {
 
 impl Gate for Rendezvous {
     fn pass(&self, process: u32, turns: u64) {
-        if process == 1 {
+        if process == self.receiver {
             self.come.store(turns, Ordering::SeqCst);
-        } else if process == 0 && turns > 2 && turns - 2 <= self.sends {
+        } else if process == self.sender && turns > 2 && turns - 2 <= self.sends {
             self.wait(turns);
         }
     }
@@ -118,6 +122,15 @@ const ONE: &[File<'static>] = &[
         "net",
         b"flow 1\n'i' -> FILE A(ReadLines)\nA OUT -> IN V(WriteLines)\n'v' -> FILE V\n",
     ),
+    ("i", b"x\ny\n"),
+];
+
+const LATE: &[File<'static>] = &[
+    (
+        "net",
+        b"flow 2\n'many' -> FILE A(ReadLines)\nA OUT -> IN W(WriteLines)\n'w' -> FILE W\nW *OUT -> *IN B(ReadLines)\n'i' -> FILE B\nB OUT -> IN V(WriteLines)\n'v' -> FILE V\n",
+    ),
+    ("many", &[b'\n'; 20_000]),
     ("i", b"x\ny\n"),
 ];
 
@@ -168,15 +181,29 @@ fn gate_holds_four(rt: HostRuntime) {
     );
 }
 
+/// Whether the sender never went on alone, and what it sent is in the receiver's file.
+fn check_rendezvous(rt: &impl Abort, gate: &Rendezvous, called: &Called) {
+    assert_eq!(rt; called.status, 0);
+    assert!(rt; gate.alone.load(Ordering::SeqCst) == 0);
+    assert!(rt; called.shelf.file("v") == Some(b"x\ny\n".as_slice()));
+}
+
 /// Though the connection has room for ten packets, each is there to be received before its sender thinks on.
 #[test]
 fn a_sender_waits_for_its_receiver(rt: HostRuntime) {
     for line in &[BY_TWO, BY_FOUR] {
-        let gate = Rendezvous::new(2);
+        let gate = Rendezvous::new(0, 1, 2);
         let called = call_by_workers(&rt, rt.alloc(), *line, ONE, &gate);
-        let called = called.expect(&rt, "no call");
-        assert_eq!(rt; called.status, 0);
-        assert!(rt; gate.alone.load(Ordering::SeqCst) == 0);
-        assert!(rt; called.shelf.file("v") == Some(b"x\ny\n".as_slice()));
+        check_rendezvous(&rt, &gate, &called.expect(&rt, "no call"));
+    }
+}
+
+/// It is so of a sender that begins when many quick turns of others were made.
+#[test]
+fn a_late_sender_waits_for_its_receiver(rt: HostRuntime) {
+    for line in &[BY_TWO, BY_FOUR] {
+        let gate = Rendezvous::new(2, 3, 2);
+        let called = call_by_workers(&rt, rt.alloc(), *line, LATE, &gate);
+        check_rendezvous(&rt, &gate, &called.expect(&rt, "no call"));
     }
 }
