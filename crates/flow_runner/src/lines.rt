@@ -2,6 +2,7 @@
 ghost use Rattle.std.specs.Prelude.{◌≡◌, ◌≤◌};
 
 use crate::line::Line;
+use crate::paces::Pace;
 use crate::rest::Bell;
 use crate::tuned::{BEFORE_TRIALS, BURST_LIMIT, FIRST_PAUSE, LONGEST_PAUSE};
 use crossbeam_utils::CachePadded;
@@ -16,6 +17,7 @@ pub(crate) struct Told {
     beat: AtomicU64,
     turns: AtomicU64,
     burst: AtomicU64,
+    process: AtomicU64,
 }
 
 impl Told {
@@ -24,6 +26,7 @@ impl Told {
             beat: AtomicU64::new(0),
             turns: AtomicU64::new(0),
             burst: AtomicU64::new(1),
+            process: AtomicU64::new(0),
         }
     }
 }
@@ -74,6 +77,15 @@ impl Post {
     pub(crate) fn set_burst(&self, turns: u64) {
         self.told.burst.store(turns, Ordering::SeqCst);
     }
+
+    /// The process that the worker tended last.
+    pub(crate) fn process(&self) -> u64 {
+        self.told.process.load(Ordering::SeqCst)
+    }
+
+    pub(crate) fn set_process(&self, process: u32) {
+        self.told.process.store(process as u64, Ordering::SeqCst);
+    }
 }
 
 /// What all workers have in common beside their lines.
@@ -92,17 +104,20 @@ pub(crate) struct Common {
 #[derive(Drop)]
 pub(crate) struct Lines {
     pub(crate) posts: Vec<Post>,
+    /// Those of the processes, in the order of their numbers.
+    paces: Vec<Pace>,
     common: CachePadded<Common>,
     /// Ends the sleeps of those who found nothing.
     pub(crate) bell: Bell,
 }
 
 impl Lines {
-    pub(crate) fn new(posts: Vec<Post>) -> Lines
+    pub(crate) fn new(posts: Vec<Post>, paces: Vec<Pace>) -> Lines
         ensures { result.posts ≡ posts }
     {
         Lines {
             posts,
+            paces,
             common: CachePadded::new(Common {
                 helps: AtomicU64::new(0),
                 lookout: AtomicU64::new(0),
@@ -111,6 +126,11 @@ impl Lines {
             }),
             bell: Bell::new(),
         }
+    }
+
+    /// The pace of this process.
+    pub(crate) fn pace(&self, process: u64) -> Option<&Pace> {
+        self.paces.get(process as usize)
     }
 
     pub(crate) fn may_help(&self) -> bool {

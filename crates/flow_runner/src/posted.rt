@@ -60,7 +60,8 @@ fn tend_one<K: Component, G: Gate, R: Wait>(
     ensures pushes { PushesHome (posts_of lines.now) server.old server.new }
     ensures spends { Spends (turns_of server.old.worker) stint.old.left (turns_of server.new.worker) stint.new.left }
 {
-    server.watch.begins(lines);
+    server.watch.begins(lines, process);
+    stint.tends(process);
     let own = server.watch.number;
     tend(
         rt,

@@ -13,8 +13,13 @@ pub(crate) const BURST_MICROS: u64 = 20;
 /// turns are long.
 pub(crate) const SHORTENED_BY: u64 = 4;
 
-/// Where nobody rests who could tell it how long its turns are, a worker makes twice as many turns a burst after so many bursts of one length.
+/// Where nobody rests who could tell it how long its turns are, a worker makes twice as many turns a burst after so many bursts of one length. So does each
+/// process, where it isn't seen to be slow: to 32 turns a burst, which is more than connections of ten packets let it make, it takes some 500.
 pub(crate) const BURSTS_OF_A_LENGTH: u32 = 16;
+
+/// A process of which no turn was made over a whole sleep, though it was tended, makes so many whole turns before its bursts get longer. Where it is light
+/// after all, and the system had taken the processor from its worker, they cost some 50 microseconds, by reckoning: what the shortest sleep takes.
+pub(crate) const TURNS_AFTER_A_SLOW_ONE: u64 = 1_024;
 
 /// Where a burst has at most so many turns, those whom it made ready are worth waking a worker for: that takes some microseconds, and such turns ten.
 pub(crate) const CALLS_UP_TO: u32 = 2;

@@ -4,16 +4,17 @@ ghost use Rattle.std.specs.Prelude.{◌≡◌, ◌<◌, ◌≤◌, ℕ, IfOk, If
 
 use crate::judge::{Judge, Sight};
 use crate::line::LinePass;
-use crate::lines::{GONE, Lines};
+use crate::lines::{GONE, Lines, Post};
 use crate::tuned::TRIAL_MICROS;
 use std::alloc::{AllocError, Global};
 use std::sync::Wait;
 
-/// What one saw of a worker before a rest: its beat, and how many turns it had made.
+/// What one saw of a worker before a rest: its beat, how many turns it had made, and which process it tended.
 #[derive(Clone, Copy)]
 pub(crate) struct Seen {
     beat: u64,
     turns: u64,
+    process: u64,
 }
 
 /// What a worker knows of the others.
@@ -33,6 +34,16 @@ fn behind(number: usize, count: usize) -> usize
     ensures { result < count }
 {
     if number + 1 < count { number + 1 } else { 0 }
+}
+
+/// This worker was at work all the time and made no turn: where it tends the same process still, that is slow.
+fn slows(lines: &Lines, post: &Post, seen: Seen) {
+    if post.process() != seen.process {
+        return;
+    }
+    if let Some(pace) = lines.pace(seen.process) {
+        pace.slows();
+    }
 }
 
 /// The first process of this line, by this pass of it.
@@ -58,20 +69,28 @@ impl Watch {
     {
         Ok(Watch {
             number,
-            seen: vec![in alloc; Seen { beat: 0, turns: 0 }; workers]?,
+            seen: vec![in alloc; Seen {
+                beat: 0,
+                turns: 0,
+                process: 0
+            }; workers]?,
             judge: Judge::new(workers),
             beat: 0,
         })
     }
 
-    /// It has a process that it took, and comes to work if it rested.
+    /// It tends this process, which it took, and comes to work if it rested.
     #[inline(always)]
-    pub(crate) fn begins(&mut self, lines: &Lines)
+    pub(crate) fn begins(&mut self, lines: &Lines, process: u32)
         requires { Watches (posts_of lines.now) self.old }
         ensures watches { Watches (posts_of lines.now) self.new }
         ensures number { self.new.number ≡ self.old.number }
     {
-        if self.seen.len() > 1 && self.beat & 1 == 0 {
+        if self.seen.len() < 2 {
+            return;
+        }
+        lines.posts[self.number].set_process(process);
+        if self.beat & 1 == 0 {
             self.beat = self.beat.wrapping_add(1);
             lines.posts[self.number].set_beat(self.beat);
             lines.stops_looking(self.number as u64);
@@ -93,6 +112,7 @@ impl Watch {
             self.seen[worker] = Seen {
                 beat: post.beat(),
                 turns: post.turns(),
+                process: post.process(),
             };
         }
     }
@@ -119,6 +139,9 @@ impl Watch {
             let burst = sight.burst(turns, at_work, was);
             if burst != was as u64 {
                 post.set_burst(burst);
+            }
+            if at_work && turns == 0 {
+                slows(lines, post, seen);
             }
             sight.adds(turns, at_work);
         }

@@ -1,4 +1,4 @@
-use Rattle.std.proofs.Common.{sym, subst}
+use Rattle.std.proofs.Common.{sym, subst, arith}
 use Rattle.flow_floor.specs.Floors.{IsOverAs}
 use Rattle.flow_runner.proofs.Attempts.{burst-adds, over-as, stuck-still}
 use Rattle.flow_runner.proofs.work.try_turns.Goals as goal
@@ -7,7 +7,7 @@ pub make_burst-requires-clause-held : goal.make_burst-requires-clause-held
 make_burst-requires-clause-held g c = c.think.ensures.held c.args.floor.now c.args.worker.now c.requires.held
 
 pub returns-in-Made-clause-adds : goal.returns-in-Made-clause-adds
-returns-in-Made-clause-adds g c = let t = c.in-Made.ensures.burst in (burst-adds _ _ _ _ _ t.made, t.least, t.most)
+returns-in-Made-clause-adds g c = let t = c.in-Made.ensures.burst in (burst-adds _ _ _ _ _ t.made, t.least, omega (arith, t.most, c.next-most.ensures.most))
 
 pub returns-in-Blocked-clause-may : goal.returns-in-Blocked-clause-may
 returns-in-Blocked-clause-may g c = let t = c.in-Blocked.ensures.burst in stuck-still c.args.floor.now c.make_burst.new.worker c.think.new.self c.make_burst.new.held t.0.0 t.1.stays
