@@ -1,7 +1,8 @@
 //! What a worker does with one process.
+ghost use Rattle.flow_floor.specs.Bursts.{PassesInBurst};
 ghost use Rattle.flow_floor.specs.Floors.{BurstsAt, IsHeldAt, IsIdleAt, IsSameWorker, IsWiredAt, HasSameShare, Readies, asked_of, process_count, turns_of};
 ghost use Rattle.flow_machine.specs.Thoughts.{IsSet, PassesFirst};
-ghost use Rattle.flow_runner.specs.Attempts.{Adds, MayGo, Spends};
+ghost use Rattle.flow_runner.specs.Attempts.{Adds, LetsGo, MayGo, PassesInAttempt, Spends};
 ghost use Rattle.flow_runner.specs.Lines.{IsPassAt};
 ghost use Rattle.flow_runner.specs.Serving.{names_of, IsLineFor, MayStandIn, Pushes, PushesBut};
 ghost use Rattle.std.specs.Prelude.{◌≡◌, ◌<◌, ◌≤◌, ◌++◌, [], ◌∷◌};
@@ -50,6 +51,7 @@ fn make_burst<K: Component, G: Gate, R: Wait>(
     ensures held { IsHeldAt K.rules floor.now worker.new held.new }
     ensures wired { IsWiredAt floor.now held.new }
     ensures burst { BurstsAt K.rules floor.now most held.old worker.old held.new worker.new result }
+    ensures passed { PassesInBurst (G.has_passed gate.now) held.old.body result }
     ensures same { IsSameWorker worker.old worker.new }
     ensures pushes { PushesBut line.now worker.old pass.old (names_of unpushed.old) worker.new pass.new (names_of unpushed.new) }
     ensures left { MayStandIn line.now (names_of unpushed.new) }
@@ -88,6 +90,7 @@ fn try_turns<K: Component, G: Gate, R: Wait>(
     ensures same { IsSameWorker worker.old worker.new }
     ensures adds { Adds most result (turns_of worker.old) (turns_of worker.new) }
     ensures passed { PassesFirst (G.has_passed gate.now) held.old.body }
+    ensures between { PassesInAttempt (G.has_passed gate.now) held.old.body.process.turns result }
     ensures pushes { PushesBut line.now worker.old pass.old (names_of unpushed.old) worker.new pass.new (names_of unpushed.new) }
     ensures left { MayStandIn line.now (names_of unpushed.new) }
 {
@@ -127,6 +130,7 @@ fn work<K: Component, G: Gate, R: Wait>(
     ensures may { MayGo floor.now worker.new held.new result }
     ensures same { IsSameWorker worker.old worker.new }
     ensures spends { Spends (turns_of worker.old) stint.old.left (turns_of worker.new) stint.new.left }
+    ensures passed { 1 ≤ stint.old.left → PassesFirst (G.has_passed gate.now) held.old.body }
     ensures pushes { PushesBut line.now worker.old pass.old (names_of unpushed.old) worker.new pass.new (names_of unpushed.new) }
     ensures left { MayStandIn line.now (names_of unpushed.new) }
 {
@@ -151,6 +155,7 @@ fn work<K: Component, G: Gate, R: Wait>(
 fn let_go<K: Component>(floor: &Floor<K>, worker: &mut Worker<K>, held: Held<K>, last: Attempt)
     requires held { IsHeldAt K.rules floor.now worker.old held }
     requires may { MayGo floor.now worker.old held last }
+    ensures lets_go { LetsGo held worker.old worker.new last }
     ensures idle { IsIdleAt floor.now worker.new }
     ensures same { IsSameWorker worker.old worker.new }
     ensures made { turns_of worker.new ≡ turns_of worker.old }
