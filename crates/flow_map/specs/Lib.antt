@@ -1,0 +1,3 @@
+pub mod Mapping
+pub mod Telling
+pub mod MappingLaws
