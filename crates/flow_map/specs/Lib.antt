@@ -1,3 +1,4 @@
 pub mod Mapping
 pub mod Telling
 pub mod MappingLaws
+pub mod Becoming

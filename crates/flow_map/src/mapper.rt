@@ -1,13 +1,14 @@
 //! A component that maps, made of what a kind says of a text.
 
-ghost use Rattle.std.specs.Prelude.{◌≡◌, ◌+◌, ◌-◌, ◌<◌, ◌≤◌, ◌++◌, ◌∷◌, [], length, IfOk, OnOk, OnErr};
+ghost use Rattle.flow_limits.specs.declared.TheConstants.{TEXT_LIMIT};
+ghost use Rattle.std.specs.Prelude.{◌≡◌, ◌+◌, ◌<◌, ◌≤◌, ◌++◌, ◌∷◌, [], length, IfOk, OnOk, OnErr};
 ghost use Rattle.flow_packet.specs.declared.packet.Kind.{Kind};
 ghost use Rattle.flow_packet.specs.Hands.{text_at, new_id, IsAtRoot};
 ghost use Rattle.flow_packet.specs.Held.{held_of};
 ghost use Rattle.flow_packet.specs.Tree.{packet_of};
 ghost use Rattle.flow_component.specs.Alone.{HoldsOnly};
 ghost use Rattle.flow_component.specs.Resumes.{Resumes};
-ghost use Rattle.flow_map.specs.Mapping.{Mapping, IsMapping, gives, meets, goes_on, waiting, itself_port, Over, Itself};
+ghost use Rattle.flow_map.specs.Mapping.{Mapping, IsMapping, IsReadyOn, gives, gives_from, passes, goes_on, waiting, itself_port, Over, Itself, Last, More};
 ghost use Rattle.flow_map.specs.Telling.{Tells, IsMadeOf, part_of};
 
 use flow_component::{Answer, Component, Fail, Port, Shape, Stop, Wish};
@@ -165,4 +166,125 @@ impl<M: Maps> Mapper<M> {
         self.place = MapperPlace::Waiting;
         Ok(Wish::Send(port, packet))
     }
+
+    // The last packet is made, and the other one dropped.
+    fn make_last(
+        &mut self,
+        hands: &mut Hands,
+        packet: PacketId,
+        made: Made,
+    ) -> Result<Wish, Stop>
+        requires alone { HoldsOnly (held_of hands.old) packet }
+        requires made { IsMadeOf (text_at hands.old.packets packet) made }
+        requires room { hands.old.made < 4294967295 }
+        ensures { Resumes (λ component held _ outcome. outcome ≡ gives M.mapping component held packet (text_at held.packets packet) (Last (part_of (text_at held.packets packet) made))) self.old hands.old Answer.Sent result self.new hands.new }
+    {
+        let Ok(id) = make(hands, packet, made) else {
+            return Err(Stop::NoMemory);
+        };
+        self.own.pass(Kind::Normal, hands.text(packet));
+        self.place = MapperPlace::Waiting;
+        hands.drop_packet(packet);
+        Ok(Wish::Send(OUT, id))
+    }
+
+    // A packet is made, and from this place more comes.
+    fn make_more(
+        &mut self,
+        hands: &mut Hands,
+        packet: PacketId,
+        made: Made,
+        place: usize,
+    ) -> Result<Wish, Stop>
+        requires alone { HoldsOnly (held_of hands.old) packet }
+        requires short { length (text_at hands.old.packets packet) ≤ TEXT_LIMIT }
+        requires made { IsMadeOf (text_at hands.old.packets packet) made }
+        requires room { hands.old.made < 4294967295 }
+        ensures { Resumes (λ component held _ outcome. outcome ≡ gives M.mapping component held packet (text_at held.packets packet) (More (part_of (text_at held.packets packet) made) place)) self.old hands.old Answer.Sent result self.new hands.new }
+    {
+        let Ok(id) = make(hands, packet, made) else {
+            return Err(Stop::NoMemory);
+        };
+        self.place = MapperPlace::Making { packet, place };
+        Ok(Wish::Send(OUT, id))
+    }
+
+    // It goes on with the packet from this place of its text on.
+    fn give(&mut self, hands: &mut Hands, packet: PacketId, place: usize) -> Result<Wish, Stop>
+        requires alone { HoldsOnly (held_of hands.old) packet }
+        requires within { place ≤ length (text_at hands.old.packets packet) + 1 }
+        requires room { hands.old.made < 4294967295 }
+        ensures { Resumes (λ component held _ outcome. outcome ≡ gives_from M.mapping component held packet (text_at held.packets packet) place) self.old hands.old Answer.Sent result self.new hands.new }
+    {
+        match self.own.next(hands.text(packet), place) {
+            Ok(Told::Over) => self.leave_off(hands, packet),
+            Ok(Told::Itself) => self.pass_itself(hands, packet),
+            Ok(Told::Last(made)) => self.make_last(hands, packet, made),
+            Ok(Told::More(made, on)) => self.make_more(hands, packet, made, on),
+            Ok(Told::TooLong(count)) => Err(Stop::Fail(Fail::TextLimit(count))),
+            Err(_) => Err(Stop::NoMemory),
+        }
+    }
+
+    // A bracket is passed on.
+    fn pass(&mut self, hands: &mut Hands, packet: PacketId, kind: Kind) -> Result<Wish, Stop>
+        requires alone { HoldsOnly (held_of hands.old) packet }
+        ensures { Resumes (λ component held _ outcome. outcome ≡ passes M.mapping component held packet kind (text_at held.packets packet)) self.old hands.old Answer.Sent result self.new hands.new }
+    {
+        self.own.pass(kind, hands.text(packet));
+        self.place = MapperPlace::Waiting;
+        Ok(Wish::Send(OUT, packet))
+    }
+
+    // A packet was sent.
+    fn go_on(&mut self, hands: &mut Hands) -> Result<Wish, Stop>
+        requires ready { IsReadyOn (held_of hands.old) self.old.place }
+        requires room { hands.old.made < 4294967295 }
+        ensures { Resumes (λ component held _ outcome. outcome ≡ goes_on M.mapping component held component.place) self.old hands.old Answer.Sent result self.new hands.new }
+    {
+        let at = self.place;
+        match at {
+            MapperPlace::Waiting => Ok(Wish::Receive(IN)),
+            MapperPlace::Making { packet, place } => self.give(hands, packet, place),
+        }
+    }
+}
+
+impl<M: Maps> Component for Mapper<M> {
+    ghost use Rattle.flow_map.specs.Mapping.{mapper_rules};
+    ghost use Rattle.flow_map.specs.MappingLaws.{mapper_lawful};
+
+    ghost rules = { mapper_rules M.mapping };
+
+    ghost lawful = { mapper_lawful M.mapping M.laws };
+
+    fn shape(&self) -> Shape {
+        match self.own.second() {
+            None => Shape {
+                inputs: 1,
+                outputs: 1,
+            },
+            Some(_) => Shape {
+                inputs: 1,
+                outputs: 2,
+            },
+        }
+    }
+
+    #[inline(never)]
+    fn resume(&mut self, hands: &mut Hands, answer: Answer) -> Result<Wish, Stop> {
+        match answer {
+            Answer::Start => Ok(Wish::Receive(IN)),
+            Answer::Got(packet) => match hands.kind(packet) {
+                Kind::Normal => self.give(hands, packet, 0),
+                Kind::Open => self.pass(hands, packet, Kind::Open),
+                Kind::Close => self.pass(hands, packet, Kind::Close),
+            },
+            Answer::End => Ok(Wish::Deactivate),
+            Answer::Sent => self.go_on(hands),
+            Answer::Level(_) => unreachable!(),
+        }
+    }
+
+    fn end(&mut self) {}
 }
