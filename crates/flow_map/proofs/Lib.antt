@@ -1,1 +1,2 @@
+pub mod MappingEnd
 pub mod MappingStream

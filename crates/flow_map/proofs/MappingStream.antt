@@ -10,18 +10,19 @@ use Rattle.flow_packet.specs.Held.{Held, next_id, with_made, without_packet}
 use Rattle.flow_component.specs.declared.Fail.TheVariants.{TextLimit}
 use Rattle.flow_component.specs.declared.Wish.{Wish}
 use Rattle.flow_component.specs.declared.Wish.TheVariants as wishes
-use Rattle.flow_component.specs.Laws.{Outcome, Wishes, Fails, IsAllowed}
+use Rattle.flow_component.specs.Laws.{Outcome, Wishes, Fails}
 use Rattle.flow_component.specs.Alone.{HoldsOnly}
 use Rattle.flow_component.specs.Ports.{receive_first, send_first}
 use Rattle.flow_component.specs.Happenings.{Happening, Started, Received, Ended, Sent, Learned}
 use Rattle.flow_component.specs.Runs.{Poise, fresh, Steps, Runs, EndedRun, content_got, content_sent, got, sent}
 use Rattle.flow_component.proofs.Roots.{same_id}
 use Rattle.flow_component.proofs.Lone.{HoldsOnly-packet_at, HoldsOnly-text, HoldsOnly-kind, HoldsOnly-end, HoldsOnly-made, HoldsOnly-made_at}
-use Rattle.flow_component.proofs.Streams.{stays-allowed, Comes-packets, contents_in, content-kind, content-text, port_below_one}
+use Rattle.flow_component.proofs.Streams.{Comes-packets, contents_in, content-kind, content-text, port_below_one}
 use Rattle.flow_map.specs.declared.mapper.MapperPlace.{MapperPlace}
 use Rattle.flow_map.specs.declared.mapper.MapperPlace.TheVariants.{Waiting, Making}
-use Rattle.flow_map.specs.Mapping.{Mapping, Mapped, Part, Next, Over, Itself, Last, More, waiting, itself_port, gives, meets, goes_on, mapper_shape, mapper_uses, IsReadyOn, mapper_rules, IsMapping}
-use Rattle.flow_map.specs.MappingLaws.{renewed, mapper_lawful}
+use Rattle.flow_map.specs.Mapping.{Mapping, Mapped, Part, Next, Over, Itself, Last, More, waiting, itself_port, gives, meets, goes_on, IsReadyOn, mapper_rules, IsMapping}
+use Rattle.flow_map.specs.MappingLaws.{renewed}
+use Rattle.flow_map.proofs.MappingEnd.{OneInput, one-input}
 use Rattle.flow_map.specs.Becoming.{Becoming, with_next, IsBecoming, packet_made, at_first, at_second, first_as, second_as, mapped, left_out, MapperMeaning}
 
 -- What is on its way to an output, where this is on its way to that port.
@@ -157,16 +158,7 @@ module _ {K : Type 0} (mapping : Mapping K) (is : IsMapping mapping) (becoming :
   after-going Waiting component held r m zs to = ap (ahead_in zs) to
   after-going (Making id place) component held r m zs to = after-giving-from component held id place r.0 r.1 m zs to
 
-  -- Its wish is allowed.
-  abbrev Good : Poise (Mapped K) → Type 0
-  Good p = (port : ℕ) → p.wish ≡ wishes.Receive (record { 0 = port }) → port < 1
-
-  good : (p : Poise (Mapped K)) (e : Happening) (m : Poise (Mapped K)) → Steps (mapper_rules mapping) p e m → Good m
-  good p e m s port receives =
-      let allowed : IsAllowed (mapper_shape (mapping.second p.component.own)) (mapper_uses (mapping.second p.component.own)) m.held m.wish = stays-allowed (mapper_rules mapping) (mapper_lawful mapping is) p e m s in
-      rw receives at allowed
-
-  step : (p : Poise (Mapped K)) (e : Happening) (m : Poise (Mapped K)) (zs : List Tree) → Good p → Steps (mapper_rules mapping) p e m → ahead_of p (content_got 0 e ++ zs) ≡ content_sent output e ++ ahead_of m zs
+  step : (p : Poise (Mapped K)) (e : Happening) (m : Poise (Mapped K)) (zs : List Tree) → OneInput p → Steps (mapper_rules mapping) p e m → ahead_of p (content_got 0 e ++ zs) ≡ content_sent output e ++ ahead_of m zs
   step p Started m zs g s = ap (λ (w : Wish). ahead p.held p.component w zs) s.grants.0 ∙ sym (ap (ahead_in zs) s.comes_to)
   step p (Received port t) m zs g s =
       let h = s.is_ready.1 in
@@ -186,11 +178,11 @@ module _ {K : Type 0} (mapping : Mapping K) (is : IsMapping mapping) (becoming :
       ∙ ap (λ (x : List Tree). on_way output port (content t ∷ []) ++ x) (sym (after-going p.component.place p.component s.held s.is_ready m zs s.comes_to))
   step p (Learned port level) m zs g s = absurd s.is_ready
 
-  run : (es : List Happening) (p q : Poise (Mapped K)) → Good p → Runs (mapper_rules mapping) p es q → q.wish ≡ wishes.Deactivate → ahead_of p (got 0 es) ≡ sent output es
+  run : (es : List Happening) (p q : Poise (Mapped K)) → OneInput p → Runs (mapper_rules mapping) p es q → q.wish ≡ wishes.Deactivate → ahead_of p (got 0 es) ≡ sent output es
   run [] p q g r d = ap (λ (w : Wish). ahead p.held p.component w []) (ap (λ (u : Poise (Mapped K)). u.wish) (sym r) ∙ d) ∙ none p.component.own
   run (e ∷ es) p q g r d =
       let m = r.0 in
-      step p e m (got 0 es) g r.1 ∙ ap (λ (x : List Tree). content_sent output e ++ x) (run es m q (good p e m r.1) r.2 d)
+      step p e m (got 0 es) g r.1 ∙ ap (λ (x : List Tree). content_sent output e ++ x) (run es m q (one-input mapping is p e m r.1) r.2 d)
 
   sends : (own : K) (told : List Happening) → EndedRun (mapper_rules mapping) (waiting own) told → whole own (got 0 told) ≡ sent output told
   sends own told ended = run told (fresh (waiting own) ended.maker) ended.last (λ port w. absurd (cc)) ended.runs ended.idle

@@ -1,10 +1,10 @@
 -- What becomes of a text, and of a stream, by a mapping.
-use Rattle.std.specs.Prelude.{◌≡◌, ℕ, ◌+◌, ◌≤◌, ◌&&◌, Bool, true, false, not, List, [], ◌∷◌, ◌++◌, map, length, Option, if◌then◌else◌}
+use Rattle.std.specs.Prelude.{◌≡◌, ◌≢◌, ℕ, ◌+◌, ◌≤◌, ◌&&◌, Bool, true, false, not, List, [], ◌∷◌, ◌++◌, map, length, Option, Some, None, if◌then◌else◌}
 use Rattle.flow_packet.specs.declared.packet.Kind.{Kind}
 use Rattle.flow_packet.specs.declared.packet.Kind.TheVariants.{Normal, Open, Close}
 use Rattle.flow_packet.specs.Tree.{Tree, kind_of, text_of, packet_of}
 use Rattle.flow_component.specs.Happenings.{Happening}
-use Rattle.flow_component.specs.Runs.{EndedRun, got, sent}
+use Rattle.flow_component.specs.Runs.{EndedRun, HeardEnd, got, sent}
 use Rattle.flow_map.specs.Mapping.{Mapping, Part, Next, Over, Itself, Last, More, waiting, is_connected, mapper_rules}
 
 -- What becomes of the packet with a text: the packets that are made, in order, and whether it goes itself behind them.
@@ -61,3 +61,17 @@ module _ {K : Type 0} (mapping : Mapping K) (becoming : K → List ℕ → ℕ �
   -- The meaning of such a component, over whole runs: it sends what its stream becomes.
   abbrev pub MapperMeaning : Type 0
   MapperMeaning = (own : K) (told : List Happening) → EndedRun (mapper_rules mapping) (waiting own) told → (sent 0 told ≡ mapped own (got 0 told)) × (sent 1 told ≡ left_out own (got 0 told))
+
+-- One that was started and has come to its end has heard the end of its input.
+abbrev pub MapperHears : {K : Type 0} → Mapping K → Type 0
+MapperHears {K} mapping = (own : K) (told : List Happening) → EndedRun (mapper_rules mapping) (waiting own) told → told ≢ [] → HeardEnd 0 told
+
+-- What comes next where one packet is made of a text, and none where it has no new text and is passed on itself.
+abbrev pub once_next : Option (List ℕ) → Next
+once_next None = Itself
+once_next (Some text) = Last (record { kind = Normal; text = text })
+
+-- What becomes of it.
+abbrev pub once : Option (List ℕ) → Becoming
+once None = record { parts = []; itself = true }
+once (Some text) = record { parts = record { kind = Normal; text = text } ∷ []; itself = false }

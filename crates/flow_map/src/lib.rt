@@ -3,5 +3,7 @@
 #![tactic(auto)]
 
 mod mapper;
+mod meanings;
 
 pub use mapper::{Made, Mapper, MapperPlace, Maps, Told};
+pub use meanings::{mapper_comes_to_one_outcome, mapper_hears_the_end, mapper_keeps_its_meaning};

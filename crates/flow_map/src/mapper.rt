@@ -1,7 +1,7 @@
 //! A component that maps, made of what a kind says of a text.
 
 ghost use Rattle.flow_limits.specs.declared.TheConstants.{TEXT_LIMIT};
-ghost use Rattle.std.specs.Prelude.{◌≡◌, ◌+◌, ◌<◌, ◌≤◌, ◌++◌, ◌∷◌, [], length, IfOk, OnOk, OnErr};
+ghost use Rattle.std.specs.Prelude.{◌≡◌, ◌+◌, ◌<◌, ◌≤◌, ◌++◌, ◌∷◌, [], ℕ, List, length, IfOk, OnOk, OnErr};
 ghost use Rattle.flow_packet.specs.declared.packet.Kind.{Kind};
 ghost use Rattle.flow_packet.specs.Hands.{text_at, new_id, IsAtRoot};
 ghost use Rattle.flow_packet.specs.Held.{held_of};
@@ -9,6 +9,7 @@ ghost use Rattle.flow_packet.specs.Tree.{packet_of};
 ghost use Rattle.flow_component.specs.Alone.{HoldsOnly};
 ghost use Rattle.flow_component.specs.Resumes.{Resumes};
 ghost use Rattle.flow_map.specs.Mapping.{Mapping, IsMapping, IsReadyOn, gives, gives_from, passes, goes_on, waiting, itself_port, Over, Itself, Last, More};
+ghost use Rattle.flow_map.specs.Becoming.{Becoming, IsBecoming};
 ghost use Rattle.flow_map.specs.Telling.{Tells, IsMadeOf, part_of};
 
 use flow_component::{Answer, Component, Fail, Port, Shape, Stop, Wish};
@@ -55,6 +56,9 @@ pub trait Maps: Drop {
     /// What comes next of a text, and what becomes of the kind's own state.
     ghost mapping: { Mapping Self };
 
+    /// What becomes of a text from a place on, in all.
+    ghost becoming: { Self → List ℕ → ℕ → Becoming };
+
     /// Whether the second output is connected, where there is one.
     fn second(&self) -> Option<bool>
         ensures { result ≡ mapping.second self.now };
@@ -71,6 +75,9 @@ pub trait Maps: Drop {
 
     /// The mapping is one.
     ghost laws: { IsMapping mapping };
+
+    /// This becomes of a text by what comes next of it, again and again.
+    ghost becomes: { IsBecoming mapping becoming };
 }
 
 /// Where a component that maps stands.
