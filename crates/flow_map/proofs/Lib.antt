@@ -1,2 +1,3 @@
 pub mod MappingEnd
 pub mod MappingStream
+pub mod PlainStream

@@ -126,7 +126,7 @@ module _ {K : Type 0} (mapping : Mapping K) (is : IsMapping mapping) (becoming :
       ∙ sym (append_assoc (on_way output 0 (packet_made part ∷ [])) (leaves s b t) (whole (mapping.after component.own Normal text) zs))
       ∙ ap (λ (x : List Tree). x ++ whole (mapping.after component.own Normal text) zs) (sym (more s part b t))
 
-  after-giving-from : (component : Mapped K) (held : Held) (id place : ℕ) (h : HoldsOnly held id) → place ≤ length (text_at held.packets id) + 1 → (m : Poise (Mapped K)) (zs : List Tree)
+  after-giving-from : (component : Mapped K) (held : Held) (id place : ℕ) (h : HoldsOnly held id) → place ≤ mapping.last_place component.own (text_at held.packets id) → (m : Poise (Mapped K)) (zs : List Tree)
       → outcome_of m ≡ gives mapping component held id (text_at held.packets id) (mapping.next component.own (text_at held.packets id) place) → ahead_of m zs ≡ left held component.own (Making id place) zs
   after-giving-from component held id place h w m zs to =
       let text = text_at held.packets id in
@@ -153,7 +153,7 @@ module _ {K : Type 0} (mapping : Mapping K) (is : IsMapping mapping) (becoming :
       after-passing component held t (mapping.after component.own Close (text_at held.packets (id_of t))) found m zs to
       ∙ ap (λ (l : List ℕ). on_way output 0 (content t ∷ []) ++ whole (mapping.after component.own Close l) zs) text
 
-  after-going : (place : MapperPlace) (component : Mapped K) (held : Held) → IsReadyOn held place → (m : Poise (Mapped K)) (zs : List Tree) → outcome_of m ≡ goes_on mapping component held place
+  after-going : (place : MapperPlace) (component : Mapped K) (held : Held) → IsReadyOn mapping component.own held place → (m : Poise (Mapped K)) (zs : List Tree) → outcome_of m ≡ goes_on mapping component held place
       → ahead_of m zs ≡ left held component.own place zs
   after-going Waiting component held r m zs to = ap (ahead_in zs) to
   after-going (Making id place) component held r m zs to = after-giving-from component held id place r.0 r.1 m zs to

@@ -1,5 +1,5 @@
 -- What becomes of a text, and of a stream, by a mapping.
-use Rattle.std.specs.Prelude.{◌≡◌, ◌≢◌, ℕ, ◌+◌, ◌≤◌, ◌&&◌, Bool, true, false, not, List, [], ◌∷◌, ◌++◌, map, length, Option, Some, None, if◌then◌else◌}
+use Rattle.std.specs.Prelude.{◌≡◌, ◌≢◌, ℕ, ◌≤◌, ◌&&◌, Bool, true, false, not, List, [], ◌∷◌, ◌++◌, map, Option, Some, None, if◌then◌else◌}
 use Rattle.flow_packet.specs.declared.packet.Kind.{Kind}
 use Rattle.flow_packet.specs.declared.packet.Kind.TheVariants.{Normal, Open, Close}
 use Rattle.flow_packet.specs.Tree.{Tree, kind_of, text_of, packet_of}
@@ -21,7 +21,7 @@ with_next (More part place) more = record { parts = part ∷ (more place).parts;
 
 -- This becomes of each text, from each of its places on.
 abbrev pub IsBecoming : {K : Type 0} → Mapping K → (K → List ℕ → ℕ → Becoming) → Type 0
-IsBecoming {K} mapping becoming = (own : K) (text : List ℕ) (place : ℕ) → place ≤ length text + 1 → becoming own text place ≡ with_next (mapping.next own text place) (becoming own text)
+IsBecoming {K} mapping becoming = (own : K) (text : List ℕ) (place : ℕ) → place ≤ mapping.last_place own text → becoming own text place ≡ with_next (mapping.next own text place) (becoming own text)
 
 -- A part as a packet, in the contents of a stream.
 abbrev pub packet_made : Part → Tree
@@ -65,13 +65,3 @@ module _ {K : Type 0} (mapping : Mapping K) (becoming : K → List ℕ → ℕ �
 -- One that was started and has come to its end has heard the end of its input.
 abbrev pub MapperHears : {K : Type 0} → Mapping K → Type 0
 MapperHears {K} mapping = (own : K) (told : List Happening) → EndedRun (mapper_rules mapping) (waiting own) told → told ≢ [] → HeardEnd 0 told
-
--- What comes next where one packet is made of a text, and none where it has no new text and is passed on itself.
-abbrev pub once_next : Option (List ℕ) → Next
-once_next None = Itself
-once_next (Some text) = Last (record { kind = Normal; text = text })
-
--- What becomes of it.
-abbrev pub once : Option (List ℕ) → Becoming
-once None = record { parts = []; itself = true }
-once (Some text) = record { parts = record { kind = Normal; text = text } ∷ []; itself = false }

@@ -2,3 +2,6 @@ pub mod Mapping
 pub mod Telling
 pub mod MappingLaws
 pub mod Becoming
+pub mod Plain
+pub mod PlainLaws
+pub mod Letters

@@ -1,7 +1,7 @@
 -- Components that map: in the place of a Normal packet go the packets that are made of its text, one after another; or it is passed on itself. Brackets are passed on.
 -- What is made of a text is each kind's own.
 use Rattle.flow_limits.specs.declared.TheConstants.{TEXT_LIMIT}
-use Rattle.std.specs.Prelude.{◌≡◌, ℕ, ◌+◌, ◌≤◌, ◌==◌, Bool, true, false, List, [], Option, Some, None, length, nat_lt, if◌then◌else◌}
+use Rattle.std.specs.Prelude.{◌≡◌, ℕ, ◌≤◌, ◌==◌, Bool, true, false, List, [], Option, Some, None, length, nat_lt, if◌then◌else◌}
 use Rattle.flow_packet.specs.declared.packet.Kind.{Kind}
 use Rattle.flow_packet.specs.declared.packet.Kind.TheVariants.{Normal, Open, Close}
 use Rattle.flow_packet.specs.Hands.{kind_at, text_at}
@@ -34,7 +34,9 @@ pub data Next : Type 0 where
 pub record Mapping (K : Type 0) : Type 0 where
   -- Whether its second output is connected, where it has one.
   pub second : K → Option Bool
-  -- What comes next of a packet with this text, from this place of the text on. The first place is 0.
+  -- The last place of a text. (The first one is 0.)
+  pub last_place : K → List ℕ → ℕ
+  -- What comes next of a packet with this text, from this place of the text on.
   pub next : K → List ℕ → ℕ → Next
   -- What it has become behind a packet of this kind with this text.
   pub after : K → Kind → List ℕ → K
@@ -120,38 +122,38 @@ abbrev pub IsWaiting : MapperPlace → Type 0
 IsWaiting Waiting = Unit {0}
 IsWaiting (Making id place) = ⊥
 
--- Between packets its hands are empty. A packet that it has begun with is alone in them, and the place stands in its text, or one behind the end.
-abbrev pub IsReadyOn : Held → MapperPlace → Type 0
-IsReadyOn held Waiting = held.packets ≡ []
-IsReadyOn held (Making id place) = HoldsOnly held id × (place ≤ length (text_at held.packets id) + 1)
+-- Between packets its hands are empty. A packet that it has begun with is alone in them, and the place is one of its text.
+abbrev pub IsReadyOn : {K : Type 0} → Mapping K → K → Held → MapperPlace → Type 0
+IsReadyOn mapping own held Waiting = held.packets ≡ []
+IsReadyOn mapping own held (Making id place) = HoldsOnly held id × (place ≤ mapping.last_place own (text_at held.packets id))
 
 -- What it can be told.
-abbrev pub MapperReady : {K : Type 0} → Mapped K → Held → Answer → Type 0
-MapperReady component held answers.Start = IsWaiting component.place × (held.packets ≡ [])
-MapperReady component held (answers.Got id) = IsWaiting component.place × HoldsOnly held id
-MapperReady component held answers.End = IsWaiting component.place × (held.packets ≡ [])
-MapperReady component held answers.Sent = IsReadyOn held component.place
-MapperReady component held (answers.Level n) = ⊥
+abbrev pub MapperReady : {K : Type 0} → Mapping K → Mapped K → Held → Answer → Type 0
+MapperReady mapping component held answers.Start = IsWaiting component.place × (held.packets ≡ [])
+MapperReady mapping component held (answers.Got id) = IsWaiting component.place × HoldsOnly held id
+MapperReady mapping component held answers.End = IsWaiting component.place × (held.packets ≡ [])
+MapperReady mapping component held answers.Sent = IsReadyOn mapping component.own held component.place
+MapperReady mapping component held (answers.Level n) = ⊥
 
 -- All that a network knows of it.
 abbrev pub mapper_rules : {K : Type 0} → Mapping K → Rules (Mapped K)
 mapper_rules mapping = record {
   shape = λ component. mapper_shape (mapping.second component.own);
   uses = λ component. mapper_uses (mapping.second component.own);
-  ready = MapperReady;
+  ready = MapperReady mapping;
   next = λ component held answer outcome. outcome ≡ mapper_next mapping component held answer;
 }
 
--- The place from which it goes on stands in the text, or one behind its end.
-abbrev pub IsWithin : List ℕ → Next → Type 0
-IsWithin text Over = Unit {0}
-IsWithin text Itself = Unit {0}
-IsWithin text (Last part) = Unit {0}
-IsWithin text (More part place) = place ≤ length text + 1
+-- The place from which it goes on is no later than this one.
+abbrev pub IsWithin : ℕ → Next → Type 0
+IsWithin last Over = Unit {0}
+IsWithin last Itself = Unit {0}
+IsWithin last (Last part) = Unit {0}
+IsWithin last (More part place) = place ≤ last
 
 -- What is asked of a mapping.
 pub record IsMapping {K : Type 0} (mapping : Mapping K) : Type 0 where
   -- No packet changes whether the second output is connected.
   pub stays : (own : K) (kind : Kind) (text : List ℕ) → mapping.second (mapping.after own kind text) ≡ mapping.second own
-  -- From a place in a text it goes on to another.
-  pub within : (own : K) (text : List ℕ) (place : ℕ) → place ≤ length text + 1 → IsWithin text (mapping.next own text place)
+  -- From a place of a text it goes on to another.
+  pub within : (own : K) (text : List ℕ) (place : ℕ) → place ≤ mapping.last_place own text → IsWithin (mapping.last_place own text) (mapping.next own text place)

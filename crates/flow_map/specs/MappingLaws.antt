@@ -1,6 +1,6 @@
 -- Components that map keep the laws of components.
 use Rattle.flow_limits.specs.declared.TheConstants.{TEXT_LIMIT}
-use Rattle.std.proofs.Common.{◌≡◌, ℕ, ◌+◌, ◌≤◌, Bool, true, false, List, [], ◌∷◌, length, Option, Some, None, nat_lt, cond, refl, sym, subst, ap, ◌∙◌, arith, eq-eqb, IsTrue}
+use Rattle.std.proofs.Common.{◌≡◌, ℕ, ◌≤◌, Bool, true, false, List, [], ◌∷◌, length, Option, Some, None, nat_lt, cond, refl, sym, subst, ap, ◌∙◌, arith, eq-eqb, IsTrue}
 use Rattle.flow_packet.specs.declared.packet.Kind.{Kind}
 use Rattle.flow_packet.specs.declared.packet.Kind.TheVariants.{Normal, Open, Close}
 use Rattle.flow_packet.specs.Tree.{Tree, id_of, text_of, packet_of}
@@ -78,21 +78,21 @@ module _ {K : Type 0} (mapping : Mapping K) (is : IsMapping mapping) where
         λ s. rw e (made-gone (next_id held) part.kind part.text),
       )
 
-  made-more : (second : Option Bool) (component : Mapped K) (held : Held) (id : ℕ) (part : Part) (place : ℕ) → HoldsOnly held id → place ≤ length (text_at held.packets id) + 1
+  made-more : (second : Option Bool) (component : Mapped K) (held : Held) (id : ℕ) (part : Part) (place : ℕ) → HoldsOnly held id → place ≤ mapping.last_place component.own (text_at held.packets id)
       → IsLawful second held (makes component held part (record component { place = Making id place }) (with_made held part.kind part.text))
   made-more second component held id part place h within = by (nat_lt TEXT_LIMIT (length part.text))
     where
-      kept : Sound (without_packet (with_made held part.kind part.text) (next_id held)) → IsReadyOn (without_packet (with_made held part.kind part.text) (next_id held)) (Making id place)
+      kept : Sound (without_packet (with_made held part.kind part.text) (next_id held)) → IsReadyOn mapping component.own (without_packet (with_made held part.kind part.text) (next_id held)) (Making id place)
       kept s =
           let l = HoldsOnly-left held id part.kind part.text h s in
           let t = text-left held id part.kind part.text h l in
-          (l, omega (arith, ap length t, within))
+          (l, subst (λ (n : ℕ). place ≤ n) (sym (ap (mapping.last_place component.own) t)) within)
 
       by : (long : Bool) → IsLawful second held (cond long (Fails component held (TextLimit (length part.text))) (Wishes (record component { place = Making id place }) (with_made held part.kind part.text) (send_first (next_id held))))
       by true = ((comes_same held, tt), tt)
       by false = ((comes_made held part.kind part.text (omega (arith, ap length h.holds)), (uses-first second, IsAtRoot-made held part.kind part.text)), kept)
 
-  given : (next : Next) (component : Mapped K) (held : Held) (id : ℕ) → HoldsOnly held id → IsWithin (text_at held.packets id) next
+  given : (next : Next) (component : Mapped K) (held : Held) (id : ℕ) → HoldsOnly held id → IsWithin (mapping.last_place component.own (text_at held.packets id)) next
       → IsLawful (mapping.second component.own) held (gives mapping component held id (text_at held.packets id) next)
   given Over component held id h w =
       receives (mapping.second component.own) held (without_packet held id) (waiting (mapping.after component.own Normal (text_at held.packets id))) (comes_dropped held id (HoldsOnly-root held id h)) tt (HoldsOnly-without held id h)
@@ -100,7 +100,7 @@ module _ {K : Type 0} (mapping : Mapping K) (is : IsMapping mapping) where
   given (Last part) component held id h w = made-last (mapping.second component.own) component held id part (mapping.after component.own Normal (text_at held.packets id)) h
   given (More part place) component held id h w = made-more (mapping.second component.own) component held id part place h w
 
-  given-from : (component : Mapped K) (held : Held) (id place : ℕ) → HoldsOnly held id → place ≤ length (text_at held.packets id) + 1
+  given-from : (component : Mapped K) (held : Held) (id place : ℕ) → HoldsOnly held id → place ≤ mapping.last_place component.own (text_at held.packets id)
       → IsLawful (mapping.second component.own) held (gives_from mapping component held id (text_at held.packets id) place)
   given-from component held id place h w =
       let text = text_at held.packets id in
@@ -111,11 +111,11 @@ module _ {K : Type 0} (mapping : Mapping K) (is : IsMapping mapping) where
   met Open component held id h = passed (mapping.second component.own) held id (mapping.after component.own Open (text_at held.packets id)) h
   met Close component held id h = passed (mapping.second component.own) held id (mapping.after component.own Close (text_at held.packets id)) h
 
-  went-on : (place : MapperPlace) (component : Mapped K) (held : Held) → component.place ≡ place → IsReadyOn held place → IsLawful (mapping.second component.own) held (goes_on mapping component held place)
+  went-on : (place : MapperPlace) (component : Mapped K) (held : Held) → component.place ≡ place → IsReadyOn mapping component.own held place → IsLawful (mapping.second component.own) held (goes_on mapping component held place)
   went-on Waiting component held e r = receives (mapping.second component.own) held held component (comes_same held) (subst IsWaiting (sym e) tt) r
   went-on (Making id place) component held e r = given-from component held id place r.0 r.1
 
-  lawful : (component : Mapped K) (held : Held) (answer : Answer) → MapperReady component held answer → IsLawful (mapping.second component.own) held (mapper_next mapping component held answer)
+  lawful : (component : Mapped K) (held : Held) (answer : Answer) → MapperReady mapping component held answer → IsLawful (mapping.second component.own) held (mapper_next mapping component held answer)
   lawful component held answers.Start r = receives (mapping.second component.own) held held component (comes_same held) r.0 r.1
   lawful component held (answers.Got id) r = met (kind_at held.packets id) component held id r.1
   lawful component held answers.End r = ((comes_same held, tt), λ s. r)

@@ -2,8 +2,12 @@
 //! what is made of a text (`Maps`), and has its rule, its laws and its meaning over whole streams by that alone.
 #![tactic(auto)]
 
+mod letters;
 mod mapper;
 mod meanings;
 
+pub use letters::{LetterCase, Letters};
 pub use mapper::{Made, Mapper, MapperPlace, Maps, Told};
-pub use meanings::{mapper_comes_to_one_outcome, mapper_hears_the_end, mapper_keeps_its_meaning};
+pub use meanings::{
+    letters_keeps_its_meaning, mapper_comes_to_one_outcome, mapper_hears_the_end, mapper_keeps_its_meaning,
+};

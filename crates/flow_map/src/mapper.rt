@@ -65,7 +65,8 @@ pub trait Maps: Drop {
 
     /// What comes next of a packet with this text, from this place of the text on.
     fn next(&mut self, text: &[u8], place: usize) -> Result<Told, AllocError>
-        requires within { place ≤ length text.now + 1 }
+        requires short { length text.now ≤ TEXT_LIMIT }
+        requires within { place ≤ mapping.last_place self.old text.now }
         ensures same { self.new ≡ self.old }
         ensures told { IfOk result (λ told. Tells text.now told (mapping.next self.old text.now place)) };
 
@@ -219,7 +220,7 @@ impl<M: Maps> Mapper<M> {
     // It goes on with the packet from this place of its text on.
     fn give(&mut self, hands: &mut Hands, packet: PacketId, place: usize) -> Result<Wish, Stop>
         requires alone { HoldsOnly (held_of hands.old) packet }
-        requires within { place ≤ length (text_at hands.old.packets packet) + 1 }
+        requires within { place ≤ M.mapping.last_place self.old.own (text_at hands.old.packets packet) }
         requires room { hands.old.made < 4294967295 }
         ensures { Resumes (λ component held _ outcome. outcome ≡ gives_from M.mapping component held packet (text_at held.packets packet) place) self.old hands.old Answer.Sent result self.new hands.new }
     {
@@ -245,7 +246,7 @@ impl<M: Maps> Mapper<M> {
 
     // A packet was sent.
     fn go_on(&mut self, hands: &mut Hands) -> Result<Wish, Stop>
-        requires ready { IsReadyOn (held_of hands.old) self.old.place }
+        requires ready { IsReadyOn M.mapping self.old.own (held_of hands.old) self.old.place }
         requires room { hands.old.made < 4294967295 }
         ensures { Resumes (λ component held _ outcome. outcome ≡ goes_on M.mapping component held component.place) self.old hands.old Answer.Sent result self.new hands.new }
     {

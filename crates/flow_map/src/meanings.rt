@@ -2,6 +2,7 @@
 ghost use Rattle.flow_component.specs.Laws.{AtMostOneOutcome};
 ghost use Rattle.flow_map.specs.Mapping.{mapper_rules};
 ghost use Rattle.flow_map.specs.Becoming.{MapperHears, MapperMeaning};
+ghost use Rattle.flow_map.specs.Letters.{LettersMeaning};
 
 use crate::Maps;
 
@@ -18,4 +19,9 @@ pub fn mapper_hears_the_end<M: Maps>()
 /// Told the same in the same state with the same hands, it comes to at most one outcome.
 pub fn mapper_comes_to_one_outcome<M: Maps>()
     ensures { AtMostOneOutcome (mapper_rules M.mapping) }
+{}
+
+/// What a Letters has sent is what it got, each Normal packet with its letters in one case.
+pub fn letters_keeps_its_meaning()
+    ensures { LettersMeaning }
 {}
