@@ -1,6 +1,6 @@
 -- A component that maps receives at its one input alone, and has heard the end of it when it has come to its own.
 use Rattle.flow_limits.specs.declared.TheConstants.{TEXT_LIMIT}
-use Rattle.std.proofs.Common.{◌≡◌, ◌≢◌, ℕ, ◌<◌, Bool, true, false, List, [], ◌∷◌, Option, length, nat_lt, cond, refl, sym, subst, ap, ◌∙◌, arith, inl, inr}
+use Rattle.std.proofs.Common.{◌≡◌, ◌≢◌, ℕ, ◌<◌, Bool, true, false, List, [], ◌∷◌, length, nat_lt, cond, refl, sym, subst, ap, ◌∙◌, arith, inl, inr}
 use Rattle.flow_packet.specs.declared.packet.Kind.{Kind}
 use Rattle.flow_packet.specs.declared.packet.Kind.TheVariants.{Normal, Open, Close}
 use Rattle.flow_packet.specs.Hands.{kind_at, text_at}
@@ -11,11 +11,11 @@ use Rattle.flow_component.specs.declared.Wish.TheVariants as wishes
 use Rattle.flow_component.specs.Laws.{Outcome, Wishes, Fails, IsAllowed}
 use Rattle.flow_component.specs.Ports.{send_first}
 use Rattle.flow_component.specs.Happenings.{Happening, Started, Received, Ended, Sent, Learned}
-use Rattle.flow_component.specs.Runs.{Poise, fresh, Steps, Runs, EndedRun, IsEnd, HeardEnd}
+use Rattle.flow_component.specs.Runs.{Poise, fresh, Steps, Runs, IsEnd, HeardEnd}
 use Rattle.flow_component.proofs.Streams.{stays-allowed}
 use Rattle.flow_map.specs.declared.mapper.MapperPlace.{MapperPlace}
 use Rattle.flow_map.specs.declared.mapper.MapperPlace.TheVariants.{Waiting, Making}
-use Rattle.flow_map.specs.Mapping.{Mapping, Mapped, Part, Next, Over, Itself, Last, More, waiting, gives, meets, goes_on, mapper_shape, mapper_uses, mapper_rules, IsMapping}
+use Rattle.flow_map.specs.Mapping.{Mapping, Mapped, Next, Over, Itself, Last, More, waiting, gives, meets, goes_on, mapper_shape, mapper_uses, mapper_rules, IsMapping}
 use Rattle.flow_map.specs.MappingLaws.{mapper_lawful}
 use Rattle.flow_map.specs.Becoming.{MapperHears}
 
@@ -48,10 +48,10 @@ module _ {K : Type 0} (mapping : Mapping K) (is : IsMapping mapping) where
   gives-busy : (next : Next) (component : Mapped K) (held : Held) (id : ℕ) (text : List ℕ) → StaysBusy (gives mapping component held id text next)
   gives-busy Over component held id text = tt
   gives-busy Itself component held id text = tt
-  gives-busy (Last part) component held id text =
-      makes-busy (nat_lt TEXT_LIMIT (length part.text)) component (waiting (mapping.after component.own Normal text)) held (without_packet (with_made held part.kind part.text) id) (length part.text) (next_id held)
-  gives-busy (More part place) component held id text =
-      makes-busy (nat_lt TEXT_LIMIT (length part.text)) component (record component { place = Making id place }) held (with_made held part.kind part.text) (length part.text) (next_id held)
+  gives-busy (Last product) component held id text =
+      makes-busy (nat_lt TEXT_LIMIT (length product.text)) component (waiting (mapping.after component.own Normal text)) held (without_packet (with_made held product.kind product.text) id) (length product.text) (next_id held)
+  gives-busy (More product place) component held id text =
+      makes-busy (nat_lt TEXT_LIMIT (length product.text)) component (record component { place = Making id place }) held (with_made held product.kind product.text) (length product.text) (next_id held)
 
   meets-busy : (kind : Kind) (component : Mapped K) (held : Held) (id : ℕ) (text : List ℕ) → StaysBusy (meets mapping component held id kind text)
   meets-busy Normal component held id text = gives-busy (mapping.next component.own text 0) component held id text

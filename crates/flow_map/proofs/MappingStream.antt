@@ -1,7 +1,6 @@
 -- What a component that maps sends is what its stream becomes.
 use Rattle.flow_limits.specs.declared.TheConstants.{TEXT_LIMIT}
-use Rattle.std.proofs.Common.{◌≡◌, ℕ, ◌+◌, ◌<◌, ◌≤◌, ◌==◌, ◌&&◌, Bool, true, false, List, [], ◌∷◌, ◌++◌, map, length, Option, Some, None, nat_eq, nat_lt, cond, if◌then◌else◌, refl, sym, ap, ◌∙◌, arith, append-nil, append_assoc}
-use Rattle.std.specs.Prelude.{not}
+use Rattle.std.proofs.Common.{◌≡◌, ℕ, ◌≤◌, ◌==◌, Bool, true, false, List, [], ◌∷◌, ◌++◌, length, Option, Some, None, nat_eq, nat_lt, cond, if◌then◌else◌, refl, sym, ap, ◌∙◌, arith, append-nil, append_assoc}
 use Rattle.flow_packet.specs.declared.packet.Kind.{Kind}
 use Rattle.flow_packet.specs.declared.packet.Kind.TheVariants.{Normal, Open, Close}
 use Rattle.flow_packet.specs.Tree.{Tree, content, id_of, kind_of, text_of, packet_of}
@@ -12,7 +11,7 @@ use Rattle.flow_component.specs.declared.Wish.{Wish}
 use Rattle.flow_component.specs.declared.Wish.TheVariants as wishes
 use Rattle.flow_component.specs.Laws.{Outcome, Wishes, Fails}
 use Rattle.flow_component.specs.Alone.{HoldsOnly}
-use Rattle.flow_component.specs.Ports.{receive_first, send_first}
+use Rattle.flow_component.specs.Ports.{send_first}
 use Rattle.flow_component.specs.Happenings.{Happening, Started, Received, Ended, Sent, Learned}
 use Rattle.flow_component.specs.Runs.{Poise, fresh, Steps, Runs, EndedRun, content_got, content_sent, got, sent}
 use Rattle.flow_component.proofs.Roots.{same_id}
@@ -20,7 +19,7 @@ use Rattle.flow_component.proofs.Lone.{HoldsOnly-packet_at, HoldsOnly-text, Hold
 use Rattle.flow_component.proofs.Streams.{Comes-packets, contents_in, content-kind, content-text, port_below_one}
 use Rattle.flow_map.specs.declared.mapper.MapperPlace.{MapperPlace}
 use Rattle.flow_map.specs.declared.mapper.MapperPlace.TheVariants.{Waiting, Making}
-use Rattle.flow_map.specs.Mapping.{Mapping, Mapped, Part, Next, Over, Itself, Last, More, waiting, itself_port, gives, meets, goes_on, IsReadyOn, mapper_rules, IsMapping}
+use Rattle.flow_map.specs.Mapping.{Mapping, Mapped, Product, Next, Over, Itself, Last, More, waiting, itself_port, gives, meets, goes_on, IsReadyOn, mapper_rules, IsMapping}
 use Rattle.flow_map.specs.MappingLaws.{renewed}
 use Rattle.flow_map.proofs.MappingEnd.{OneInput, one-input}
 use Rattle.flow_map.specs.Becoming.{Becoming, with_next, IsBecoming, packet_made, at_first, at_second, first_as, second_as, mapped, left_out, MapperMeaning}
@@ -43,12 +42,12 @@ content_in (Some t) = content t
 -- What leaves at an output, by these facts of what leaves there of one packet, and of the whole.
 module _ {K : Type 0} (mapping : Mapping K) (is : IsMapping mapping) (becoming : K → List ℕ → ℕ → Becoming) (so : IsBecoming mapping becoming)
     (output : ℕ) (leaves : Option Bool → Becoming → Tree → List Tree) (whole : K → List Tree → List Tree)
-    (over : (s : Option Bool) (t : Tree) → leaves s (record { parts = []; itself = false }) t ≡ [])
-    (itself : (s : Option Bool) (t : Tree) → leaves s (record { parts = []; itself = true }) t ≡ on_way output (itself_port s).0 (t ∷ []))
-    (more : (s : Option Bool) (part : Part) (b : Becoming) (t : Tree) → leaves s (record { parts = part ∷ b.parts; itself = b.itself }) t ≡ on_way output 0 (packet_made part ∷ []) ++ leaves s b t)
+    (over : (s : Option Bool) (t : Tree) → leaves s (record { products = []; itself = false }) t ≡ [])
+    (itself : (s : Option Bool) (t : Tree) → leaves s (record { products = []; itself = true }) t ≡ on_way output (itself_port s).0 (t ∷ []))
+    (more : (s : Option Bool) (product : Product) (b : Becoming) (t : Tree) → leaves s (record { products = product ∷ b.products; itself = b.itself }) t ≡ on_way output 0 (packet_made product ∷ []) ++ leaves s b t)
     (none : (own : K) → whole own [] ≡ [])
     (first : (own : K) (packet : Tree) (zs : List Tree)
-        → whole own (packet ∷ zs) ≡ as_kind (kind_of packet) (leaves (mapping.second own) (becoming own (text_of packet) 0) packet) (on_way output 0 (packet ∷ [])) ++ whole (mapping.after own (kind_of packet) (text_of packet)) zs) where
+    → whole own (packet ∷ zs) ≡ as_kind (kind_of packet) (leaves (mapping.second own) (becoming own (text_of packet) 0) packet) (on_way output 0 (packet ∷ [])) ++ whole (mapping.after own (kind_of packet) (text_of packet)) zs) where
   -- What is still to be sent of the packet that it has begun with, and of those that come.
   abbrev left : Held → K → MapperPlace → List Tree → List Tree
   left held own Waiting zs = whole own zs
@@ -73,27 +72,27 @@ module _ {K : Type 0} (mapping : Mapping K) (is : IsMapping mapping) (becoming :
   outcome_of m = Wishes m.component m.held m.wish
 
   -- a packet was made as the last, unless it is too long
-  after-last : (long : Bool) (component : Mapped K) (held : Held) (id : ℕ) (part : Part) (own : K) (h : HoldsOnly held id) (m : Poise (Mapped K)) (zs : List Tree)
-      → outcome_of m ≡ cond long (Fails component held (TextLimit (length part.text))) (Wishes (waiting own) (without_packet (with_made held part.kind part.text) id) (send_first (next_id held)))
-      → ahead_of m zs ≡ on_way output 0 (packet_made part ∷ []) ++ whole own zs
-  after-last true component held id part own h m zs to = absurd (cc)
-  after-last false component held id part own h m zs to =
-      let r = renewed held id part.kind part.text h in
+  after-last : (long : Bool) (component : Mapped K) (held : Held) (id : ℕ) (product : Product) (own : K) (h : HoldsOnly held id) (m : Poise (Mapped K)) (zs : List Tree)
+      → outcome_of m ≡ cond long (Fails component held (TextLimit (length product.text))) (Wishes (waiting own) (without_packet (with_made held product.kind product.text) id) (send_first (next_id held)))
+      → ahead_of m zs ≡ on_way output 0 (packet_made product ∷ []) ++ whole own zs
+  after-last true component held id product own h m zs to = absurd (cc)
+  after-last false component held id product own h m zs to =
+      let r = renewed held id product.kind product.text h in
       let s = same_id (next_id held) in
-      let found : packet_at (without_packet (with_made held part.kind part.text) id).packets (next_id held) ≡ Some (packet_of (next_id held) part.kind part.text []) = rw (r, s) refl in
+      let found : packet_at (without_packet (with_made held product.kind product.text) id).packets (next_id held) ≡ Some (packet_of (next_id held) product.kind product.text []) = rw (r, s) refl in
       ap (ahead_in zs) to ∙ ap (λ (o : Option Tree). on_way output 0 (contents_in o) ++ whole own zs) found
 
   -- a packet was made, and more come
-  after-more : (long : Bool) (component : Mapped K) (held : Held) (id : ℕ) (part : Part) (place : ℕ) (h : HoldsOnly held id) (m : Poise (Mapped K)) (zs : List Tree)
-      → outcome_of m ≡ cond long (Fails component held (TextLimit (length part.text))) (Wishes (record component { place = Making id place }) (with_made held part.kind part.text) (send_first (next_id held)))
-      → ahead_of m zs ≡ on_way output 0 (packet_made part ∷ []) ++ left held component.own (Making id place) zs
-  after-more true component held id part place h m zs to = absurd (cc)
-  after-more false component held id part place h m zs to =
-      let found = HoldsOnly-made_at held id part.kind part.text h in
-      let alone : (without_packet (with_made held part.kind part.text) (next_id held)).packets ≡ held.packets = HoldsOnly-made held id part.kind part.text h ∙ sym h.holds in
+  after-more : (long : Bool) (component : Mapped K) (held : Held) (id : ℕ) (product : Product) (place : ℕ) (h : HoldsOnly held id) (m : Poise (Mapped K)) (zs : List Tree)
+      → outcome_of m ≡ cond long (Fails component held (TextLimit (length product.text))) (Wishes (record component { place = Making id place }) (with_made held product.kind product.text) (send_first (next_id held)))
+      → ahead_of m zs ≡ on_way output 0 (packet_made product ∷ []) ++ left held component.own (Making id place) zs
+  after-more true component held id product place h m zs to = absurd (cc)
+  after-more false component held id product place h m zs to =
+      let found = HoldsOnly-made_at held id product.kind product.text h in
+      let alone : (without_packet (with_made held product.kind product.text) (next_id held)).packets ≡ held.packets = HoldsOnly-made held id product.kind product.text h ∙ sym h.holds in
       ap (ahead_in zs) to
-      ∙ ap (λ (o : Option Tree). on_way output 0 (contents_in o) ++ left (without_packet (with_made held part.kind part.text) (next_id held)) component.own (Making id place) zs) found
-      ∙ ap (λ (ts : List Tree). on_way output 0 (packet_made part ∷ []) ++ (leaves (mapping.second component.own) (becoming component.own (text_at ts id) place) (content_in (packet_at ts id)) ++ whole (mapping.after component.own Normal (text_at ts id)) zs)) alone
+      ∙ ap (λ (o : Option Tree). on_way output 0 (contents_in o) ++ left (without_packet (with_made held product.kind product.text) (next_id held)) component.own (Making id place) zs) found
+      ∙ ap (λ (ts : List Tree). on_way output 0 (packet_made product ∷ []) ++ (leaves (mapping.second component.own) (becoming component.own (text_at ts id) place) (content_in (packet_at ts id)) ++ whole (mapping.after component.own Normal (text_at ts id)) zs)) alone
 
   -- what leaves of a packet, by what comes next of it
   after-giving : (next : Next) (component : Mapped K) (held : Held) (id : ℕ) (h : HoldsOnly held id) (m : Poise (Mapped K)) (zs : List Tree)
@@ -111,20 +110,20 @@ module _ {K : Type 0} (mapping : Mapping K) (is : IsMapping mapping) (becoming :
       ap (ahead_in zs) to
       ∙ ap (λ (x : List Tree). on_way output (itself_port s).0 x ++ whole (mapping.after component.own Normal text) zs) here
       ∙ ap (λ (x : List Tree). x ++ whole (mapping.after component.own Normal text) zs) (sym (itself s (content_in (packet_at held.packets id))))
-  after-giving (Last part) component held id h m zs to =
+  after-giving (Last product) component held id h m zs to =
       let text = text_at held.packets id in
       let s = mapping.second component.own in
       let t = content_in (packet_at held.packets id) in
-      after-last (nat_lt TEXT_LIMIT (length part.text)) component held id part (mapping.after component.own Normal text) h m zs to
-      ∙ ap (λ (x : List Tree). x ++ whole (mapping.after component.own Normal text) zs) (sym (more s part (record { parts = []; itself = false }) t ∙ ap (λ (x : List Tree). on_way output 0 (packet_made part ∷ []) ++ x) (over s t) ∙ append-nil (on_way output 0 (packet_made part ∷ []))))
-  after-giving (More part place) component held id h m zs to =
+      after-last (nat_lt TEXT_LIMIT (length product.text)) component held id product (mapping.after component.own Normal text) h m zs to
+      ∙ ap (λ (x : List Tree). x ++ whole (mapping.after component.own Normal text) zs) (sym (more s product (record { products = []; itself = false }) t ∙ ap (λ (x : List Tree). on_way output 0 (packet_made product ∷ []) ++ x) (over s t) ∙ append-nil (on_way output 0 (packet_made product ∷ []))))
+  after-giving (More product place) component held id h m zs to =
       let text = text_at held.packets id in
       let s = mapping.second component.own in
       let t = content_in (packet_at held.packets id) in
       let b = becoming component.own text place in
-      after-more (nat_lt TEXT_LIMIT (length part.text)) component held id part place h m zs to
-      ∙ sym (append_assoc (on_way output 0 (packet_made part ∷ [])) (leaves s b t) (whole (mapping.after component.own Normal text) zs))
-      ∙ ap (λ (x : List Tree). x ++ whole (mapping.after component.own Normal text) zs) (sym (more s part b t))
+      after-more (nat_lt TEXT_LIMIT (length product.text)) component held id product place h m zs to
+      ∙ sym (append_assoc (on_way output 0 (packet_made product ∷ [])) (leaves s b t) (whole (mapping.after component.own Normal text) zs))
+      ∙ ap (λ (x : List Tree). x ++ whole (mapping.after component.own Normal text) zs) (sym (more s product b t))
 
   after-giving-from : (component : Mapped K) (held : Held) (id place : ℕ) (h : HoldsOnly held id) → place ≤ mapping.last_place component.own (text_at held.packets id) → (m : Poise (Mapped K)) (zs : List Tree)
       → outcome_of m ≡ gives mapping component held id (text_at held.packets id) (mapping.next component.own (text_at held.packets id) place) → ahead_of m zs ≡ left held component.own (Making id place) zs
@@ -187,12 +186,12 @@ module _ {K : Type 0} (mapping : Mapping K) (is : IsMapping mapping) (becoming :
   sends : (own : K) (told : List Happening) → EndedRun (mapper_rules mapping) (waiting own) told → whole own (got 0 told) ≡ sent output told
   sends own told ended = run told (fresh (waiting own) ended.maker) ended.last (λ port w. absurd (cc)) ended.runs ended.idle
 
-first-itself : (s : Option Bool) (t : Tree) → at_first s (record { parts = []; itself = true }) t ≡ on_way 0 (itself_port s).0 (t ∷ [])
+first-itself : (s : Option Bool) (t : Tree) → at_first s (record { products = []; itself = true }) t ≡ on_way 0 (itself_port s).0 (t ∷ [])
 first-itself None t = refl
 first-itself (Some false) t = refl
 first-itself (Some true) t = refl
 
-second-itself : (s : Option Bool) (t : Tree) → at_second s (record { parts = []; itself = true }) t ≡ on_way 1 (itself_port s).0 (t ∷ [])
+second-itself : (s : Option Bool) (t : Tree) → at_second s (record { products = []; itself = true }) t ≡ on_way 1 (itself_port s).0 (t ∷ [])
 second-itself None t = refl
 second-itself (Some false) t = refl
 second-itself (Some true) t = refl
@@ -211,8 +210,8 @@ module _ {K : Type 0} (mapping : Mapping K) (becoming : K → List ℕ → ℕ �
   -- Over a whole run it sends what its stream becomes.
   pub mapper_meaning : IsMapping mapping → IsBecoming mapping becoming → MapperMeaning mapping becoming
   mapper_meaning is so own told ended = (
-    sym (sends mapping is becoming so 0 at_first (mapped mapping becoming) (λ s t. refl) first-itself (λ s part b t. refl) (λ k. refl)
-    (λ k t zs. ap (λ (x : List Tree). x ++ mapped mapping becoming (mapping.after k (kind_of t) (text_of t)) zs) (first-kind (kind_of t) k t)) own told ended),
-    sym (sends mapping is becoming so 1 at_second (left_out mapping becoming) (λ s t. refl) second-itself (λ s part b t. refl) (λ k. refl)
-    (λ k t zs. ap (λ (x : List Tree). x ++ left_out mapping becoming (mapping.after k (kind_of t) (text_of t)) zs) (second-kind (kind_of t) k t)) own told ended),
+    sym (sends mapping is becoming so 0 at_first (mapped mapping becoming) (λ s t. refl) first-itself (λ s product b t. refl) (λ k. refl)
+        (λ k t zs. ap (λ (x : List Tree). x ++ mapped mapping becoming (mapping.after k (kind_of t) (text_of t)) zs) (first-kind (kind_of t) k t)) own told ended),
+    sym (sends mapping is becoming so 1 at_second (left_out mapping becoming) (λ s t. refl) second-itself (λ s product b t. refl) (λ k. refl)
+        (λ k t zs. ap (λ (x : List Tree). x ++ left_out mapping becoming (mapping.after k (kind_of t) (text_of t)) zs) (second-kind (kind_of t) k t)) own told ended),
   )

@@ -1,14 +1,14 @@
 -- What components of the simpler sorts make of their streams.
-use Rattle.std.proofs.Common.{◌≡◌, ℕ, ◌≤◌, List, [], ◌∷◌, ◌++◌, map, Option, Some, None, true, false, Bool, if◌then◌else◌, refl, sym, ap, ◌∙◌}
-use Rattle.std.specs.Prelude.{not, ◌&&◌}
+use Rattle.std.proofs.Common.{◌≡◌, ℕ, List, [], ◌∷◌, ◌++◌, map, Option, Some, None, true, false, Bool, if◌then◌else◌, refl, ap, ◌∙◌}
+use Rattle.std.specs.Prelude.{◌&&◌}
 use Rattle.std.specs.List.{flat_map}
 use Rattle.flow_packet.specs.declared.packet.Kind.{Kind}
 use Rattle.flow_packet.specs.declared.packet.Kind.TheVariants.{Normal, Open, Close}
 use Rattle.flow_packet.specs.Tree.{Tree, kind_of, text_of}
 use Rattle.flow_component.specs.Runs.{got}
-use Rattle.flow_map.specs.Mapping.{Mapping, Next, IsMapping}
-use Rattle.flow_map.specs.Becoming.{Becoming, IsBecoming, packet_made, at_first, first_as, mapped}
-use Rattle.flow_map.specs.Plain.{plain_mapping, became_all, became_as, became, PlainMeaning, once_next, once, once_mapping, once_becoming, renewed_if, renewed_as, renewed_by, OnceMeaning}
+use Rattle.flow_map.specs.Mapping.{Next, IsMapping}
+use Rattle.flow_map.specs.Becoming.{Becoming, IsBecoming, packet_made, first_as, mapped}
+use Rattle.flow_map.specs.Plain.{plain_mapping, became_all, became_as, became, PlainMeaning, once_next, once, once_becoming, renewed_if, renewed_as, renewed_by, OnceMeaning}
 use Rattle.flow_map.specs.PlainLaws.{once_laws, once_becomes}
 use Rattle.flow_map.proofs.MappingStream.{mapper_meaning}
 
@@ -34,7 +34,7 @@ module _ {K : Type 0} where
       → first_as (plain_mapping last_place next) becoming own kind packet ≡ became_as (λ text. becoming own text 0) kind packet
   plain-first last_place next becoming own Normal packet =
       let b = becoming own (text_of packet) 0 in
-      ap (λ (x : List Tree). map packet_made b.parts ++ x) (goes-itself b.itself packet)
+      ap (λ (x : List Tree). map packet_made b.products ++ x) (goes-itself b.itself packet)
   plain-first last_place next becoming own Open packet = refl
   plain-first last_place next becoming own Close packet = refl
 

@@ -1,35 +1,35 @@
 -- What becomes of a text, and of a stream, by a mapping.
-use Rattle.std.specs.Prelude.{◌≡◌, ◌≢◌, ℕ, ◌≤◌, ◌&&◌, Bool, true, false, not, List, [], ◌∷◌, ◌++◌, map, Option, Some, None, if◌then◌else◌}
+use Rattle.std.specs.Prelude.{◌≡◌, ◌≢◌, ℕ, ◌≤◌, ◌&&◌, Bool, true, false, not, List, [], ◌∷◌, ◌++◌, map, Option, if◌then◌else◌}
 use Rattle.flow_packet.specs.declared.packet.Kind.{Kind}
 use Rattle.flow_packet.specs.declared.packet.Kind.TheVariants.{Normal, Open, Close}
 use Rattle.flow_packet.specs.Tree.{Tree, kind_of, text_of, packet_of}
 use Rattle.flow_component.specs.Happenings.{Happening}
 use Rattle.flow_component.specs.Runs.{EndedRun, HeardEnd, got, sent}
-use Rattle.flow_map.specs.Mapping.{Mapping, Part, Next, Over, Itself, Last, More, waiting, is_connected, mapper_rules}
+use Rattle.flow_map.specs.Mapping.{Mapping, Product, Next, Over, Itself, Last, More, waiting, is_connected, mapper_rules}
 
 -- What becomes of the packet with a text: the packets that are made, in order, and whether it goes itself behind them.
 pub record Becoming : Type 0 where
-  pub parts : List Part
+  pub products : List Product
   pub itself : Bool
 
 -- With what comes next, and then what becomes from a place on.
 abbrev pub with_next : Next → (ℕ → Becoming) → Becoming
-with_next Over more = record { parts = []; itself = false }
-with_next Itself more = record { parts = []; itself = true }
-with_next (Last part) more = record { parts = part ∷ []; itself = false }
-with_next (More part place) more = record { parts = part ∷ (more place).parts; itself = (more place).itself }
+with_next Over more = record { products = []; itself = false }
+with_next Itself more = record { products = []; itself = true }
+with_next (Last product) more = record { products = product ∷ []; itself = false }
+with_next (More product place) more = record { products = product ∷ (more place).products; itself = (more place).itself }
 
 -- This becomes of each text, from each of its places on.
 abbrev pub IsBecoming : {K : Type 0} → Mapping K → (K → List ℕ → ℕ → Becoming) → Type 0
 IsBecoming {K} mapping becoming = (own : K) (text : List ℕ) (place : ℕ) → place ≤ mapping.last_place own text → becoming own text place ≡ with_next (mapping.next own text place) (becoming own text)
 
--- A part as a packet, in the contents of a stream.
-abbrev pub packet_made : Part → Tree
-packet_made part = packet_of 0 part.kind part.text []
+-- A product as a packet, in the contents of a stream.
+abbrev pub packet_made : Product → Tree
+packet_made product = packet_of 0 product.kind product.text []
 
--- What leaves at the first output, where this becomes of the packet: the parts, and itself where that doesn't go to the second.
+-- What leaves at the first output, where this becomes of the packet: the products, and itself where that doesn't go to the second.
 abbrev pub at_first : Option Bool → Becoming → Tree → List Tree
-at_first second became packet = map packet_made became.parts ++ (if became.itself && not (is_connected second) then packet ∷ [] else [])
+at_first second became packet = map packet_made became.products ++ (if became.itself && not (is_connected second) then packet ∷ [] else [])
 
 -- What leaves at the second output.
 abbrev pub at_second : Option Bool → Becoming → Tree → List Tree

@@ -19,7 +19,7 @@ use Rattle.flow_map.specs.declared.mapper.MapperPlace.{MapperPlace}
 use Rattle.flow_map.specs.declared.mapper.MapperPlace.TheVariants.{Waiting, Making}
 
 -- A packet that is made of a text: its kind, and its own text.
-pub record Part : Type 0 where
+pub record Product : Type 0 where
   pub kind : Kind
   pub text : List ℕ
 
@@ -27,8 +27,8 @@ pub record Part : Type 0 where
 pub data Next : Type 0 where
   Over : Next
   Itself : Next
-  Last : (part : Part) → Next
-  More : (part : Part) → (place : ℕ) → Next
+  Last : (product : Product) → Next
+  More : (product : Product) → (place : ℕ) → Next
 
 -- How a component maps.
 pub record Mapping (K : Type 0) : Type 0 where
@@ -61,16 +61,16 @@ itself_port (Some false) = first_port
 itself_port (Some true) = second_port
 
 -- It has made a packet, which goes to the first output. A text beyond the limit is a failure instead, and nothing is made.
-abbrev pub makes : {K : Type 0} → Mapped K → Held → Part → Mapped K → Held → Outcome (Mapped K)
-makes component held part component' held' =
-    if nat_lt TEXT_LIMIT (length part.text) then Fails component held (TextLimit (length part.text)) else Wishes component' held' (send_first (next_id held))
+abbrev pub makes : {K : Type 0} → Mapped K → Held → Product → Mapped K → Held → Outcome (Mapped K)
+makes component held product component' held' =
+    if nat_lt TEXT_LIMIT (length product.text) then Fails component held (TextLimit (length product.text)) else Wishes component' held' (send_first (next_id held))
 
 -- What it does with the packet with this text, by what comes next of it. Once it is done with the packet, that is dropped, or passed on.
 abbrev pub gives : {K : Type 0} → Mapping K → Mapped K → Held → ℕ → List ℕ → Next → Outcome (Mapped K)
 gives mapping component held id text Over = Wishes (waiting (mapping.after component.own Normal text)) (without_packet held id) receive_first
 gives mapping component held id text Itself = Wishes (waiting (mapping.after component.own Normal text)) held (Send (itself_port (mapping.second component.own)) id)
-gives mapping component held id text (Last part) = makes component held part (waiting (mapping.after component.own Normal text)) (without_packet (with_made held part.kind part.text) id)
-gives mapping component held id text (More part place) = makes component held part (record component { place = Making id place }) (with_made held part.kind part.text)
+gives mapping component held id text (Last product) = makes component held product (waiting (mapping.after component.own Normal text)) (without_packet (with_made held product.kind product.text) id)
+gives mapping component held id text (More product place) = makes component held product (record component { place = Making id place }) (with_made held product.kind product.text)
 
 -- It goes on with the packet from this place of its text on.
 abbrev pub gives_from : {K : Type 0} → Mapping K → Mapped K → Held → ℕ → List ℕ → ℕ → Outcome (Mapped K)
@@ -148,8 +148,8 @@ mapper_rules mapping = record {
 abbrev pub IsWithin : ℕ → Next → Type 0
 IsWithin last Over = Unit {0}
 IsWithin last Itself = Unit {0}
-IsWithin last (Last part) = Unit {0}
-IsWithin last (More part place) = place ≤ last
+IsWithin last (Last product) = Unit {0}
+IsWithin last (More product place) = place ≤ last
 
 -- What is asked of a mapping.
 pub record IsMapping {K : Type 0} (mapping : Mapping K) : Type 0 where

@@ -19,7 +19,7 @@ use Rattle.flow_component.proofs.Comings.{comes_same, comes_dropped, comes_made,
 use Rattle.flow_component.proofs.Lone.{HoldsOnly-without, HoldsOnly-root, HoldsOnly-came, HoldsOnly-made, HoldsOnly-left, HoldsOnly-text, HoldsOnly-made_alone}
 use Rattle.flow_map.specs.declared.mapper.MapperPlace.{MapperPlace}
 use Rattle.flow_map.specs.declared.mapper.MapperPlace.TheVariants.{Waiting, Making}
-use Rattle.flow_map.specs.Mapping.{Mapping, Mapped, Part, Next, Over, Itself, Last, More, waiting, itself_port, makes, gives, gives_from, passes, meets, goes_on, mapper_next, mapper_shape, mapper_uses, IsWaiting, IsReadyOn, MapperReady, mapper_rules, IsWithin, IsMapping}
+use Rattle.flow_map.specs.Mapping.{Mapping, Mapped, Product, Next, Over, Itself, Last, More, waiting, itself_port, makes, gives, gives_from, meets, goes_on, mapper_next, mapper_shape, mapper_uses, IsWaiting, IsReadyOn, MapperReady, mapper_rules, IsWithin, IsMapping}
 
 -- In the place of the packet that was alone stands the one that was made.
 pub renewed : (held : Held) (id : ℕ) (kind : Kind) (text : List ℕ) → HoldsOnly held id → (without_packet (with_made held kind text) id).packets ≡ packet_of (next_id held) kind text [] ∷ []
@@ -64,41 +64,41 @@ module _ {K : Type 0} (mapping : Mapping K) (is : IsMapping mapping) where
   passed-itself : (second : Option Bool) (held : Held) (id : ℕ) (own : K) → HoldsOnly held id → IsLawful second held (Wishes (waiting own) held (Send (itself_port second) id))
   passed-itself second held id own h = ((comes_same held, (uses-itself second, HoldsOnly-root held id h)), λ s. HoldsOnly-without held id h)
 
-  made-last : (second : Option Bool) (component : Mapped K) (held : Held) (id : ℕ) (part : Part) (own : K) → HoldsOnly held id
-      → IsLawful second held (makes component held part (waiting own) (without_packet (with_made held part.kind part.text) id))
-  made-last second component held id part own h = by (nat_lt TEXT_LIMIT (length part.text))
+  made-last : (second : Option Bool) (component : Mapped K) (held : Held) (id : ℕ) (product : Product) (own : K) → HoldsOnly held id
+      → IsLawful second held (makes component held product (waiting own) (without_packet (with_made held product.kind product.text) id))
+  made-last second component held id product own h = by (nat_lt TEXT_LIMIT (length product.text))
     where
-      e : (without_packet (with_made held part.kind part.text) id).packets ≡ packet_of (next_id held) part.kind part.text [] ∷ []
-      e = renewed held id part.kind part.text h
+      e : (without_packet (with_made held product.kind product.text) id).packets ≡ packet_of (next_id held) product.kind product.text [] ∷ []
+      e = renewed held id product.kind product.text h
 
-      by : (long : Bool) → IsLawful second held (cond long (Fails component held (TextLimit (length part.text))) (Wishes (waiting own) (without_packet (with_made held part.kind part.text) id) (send_first (next_id held))))
+      by : (long : Bool) → IsLawful second held (cond long (Fails component held (TextLimit (length product.text))) (Wishes (waiting own) (without_packet (with_made held product.kind product.text) id) (send_first (next_id held))))
       by true = ((comes_same held, tt), tt)
       by false = (
-        (comes_renewed held part.kind part.text id (omega (arith, ap length h.holds)) (HoldsOnly-root held id h), (uses-first second, rw e (made-root (next_id held) part.kind part.text))),
-        λ s. rw e (made-gone (next_id held) part.kind part.text),
+        (comes_renewed held product.kind product.text id (omega (arith, ap length h.holds)) (HoldsOnly-root held id h), (uses-first second, rw e (made-root (next_id held) product.kind product.text))),
+        λ s. rw e (made-gone (next_id held) product.kind product.text),
       )
 
-  made-more : (second : Option Bool) (component : Mapped K) (held : Held) (id : ℕ) (part : Part) (place : ℕ) → HoldsOnly held id → place ≤ mapping.last_place component.own (text_at held.packets id)
-      → IsLawful second held (makes component held part (record component { place = Making id place }) (with_made held part.kind part.text))
-  made-more second component held id part place h within = by (nat_lt TEXT_LIMIT (length part.text))
+  made-more : (second : Option Bool) (component : Mapped K) (held : Held) (id : ℕ) (product : Product) (place : ℕ) → HoldsOnly held id → place ≤ mapping.last_place component.own (text_at held.packets id)
+      → IsLawful second held (makes component held product (record component { place = Making id place }) (with_made held product.kind product.text))
+  made-more second component held id product place h within = by (nat_lt TEXT_LIMIT (length product.text))
     where
-      kept : Sound (without_packet (with_made held part.kind part.text) (next_id held)) → IsReadyOn mapping component.own (without_packet (with_made held part.kind part.text) (next_id held)) (Making id place)
+      kept : Sound (without_packet (with_made held product.kind product.text) (next_id held)) → IsReadyOn mapping component.own (without_packet (with_made held product.kind product.text) (next_id held)) (Making id place)
       kept s =
-          let l = HoldsOnly-left held id part.kind part.text h s in
-          let t = text-left held id part.kind part.text h l in
+          let l = HoldsOnly-left held id product.kind product.text h s in
+          let t = text-left held id product.kind product.text h l in
           (l, subst (λ (n : ℕ). place ≤ n) (sym (ap (mapping.last_place component.own) t)) within)
 
-      by : (long : Bool) → IsLawful second held (cond long (Fails component held (TextLimit (length part.text))) (Wishes (record component { place = Making id place }) (with_made held part.kind part.text) (send_first (next_id held))))
+      by : (long : Bool) → IsLawful second held (cond long (Fails component held (TextLimit (length product.text))) (Wishes (record component { place = Making id place }) (with_made held product.kind product.text) (send_first (next_id held))))
       by true = ((comes_same held, tt), tt)
-      by false = ((comes_made held part.kind part.text (omega (arith, ap length h.holds)), (uses-first second, IsAtRoot-made held part.kind part.text)), kept)
+      by false = ((comes_made held product.kind product.text (omega (arith, ap length h.holds)), (uses-first second, IsAtRoot-made held product.kind product.text)), kept)
 
   given : (next : Next) (component : Mapped K) (held : Held) (id : ℕ) → HoldsOnly held id → IsWithin (mapping.last_place component.own (text_at held.packets id)) next
       → IsLawful (mapping.second component.own) held (gives mapping component held id (text_at held.packets id) next)
   given Over component held id h w =
       receives (mapping.second component.own) held (without_packet held id) (waiting (mapping.after component.own Normal (text_at held.packets id))) (comes_dropped held id (HoldsOnly-root held id h)) tt (HoldsOnly-without held id h)
   given Itself component held id h w = passed-itself (mapping.second component.own) held id (mapping.after component.own Normal (text_at held.packets id)) h
-  given (Last part) component held id h w = made-last (mapping.second component.own) component held id part (mapping.after component.own Normal (text_at held.packets id)) h
-  given (More part place) component held id h w = made-more (mapping.second component.own) component held id part place h w
+  given (Last product) component held id h w = made-last (mapping.second component.own) component held id product (mapping.after component.own Normal (text_at held.packets id)) h
+  given (More product place) component held id h w = made-more (mapping.second component.own) component held id product place h w
 
   given-from : (component : Mapped K) (held : Held) (id place : ℕ) → HoldsOnly held id → place ≤ mapping.last_place component.own (text_at held.packets id)
       → IsLawful (mapping.second component.own) held (gives_from mapping component held id (text_at held.packets id) place)
@@ -134,11 +134,11 @@ module _ {K : Type 0} (mapping : Mapping K) (is : IsMapping mapping) where
   gives-keeps : (next : Next) (component : Mapped K) (held : Held) (id : ℕ) (text : List ℕ) → Keeps component (gives mapping component held id text next)
   gives-keeps Over component held id text = is.stays component.own Normal text
   gives-keeps Itself component held id text = is.stays component.own Normal text
-  gives-keeps (Last part) component held id text =
-      makes-keeps (nat_lt TEXT_LIMIT (length part.text)) component (waiting (mapping.after component.own Normal text)) held (without_packet (with_made held part.kind part.text) id) (length part.text) (next_id held)
+  gives-keeps (Last product) component held id text =
+      makes-keeps (nat_lt TEXT_LIMIT (length product.text)) component (waiting (mapping.after component.own Normal text)) held (without_packet (with_made held product.kind product.text) id) (length product.text) (next_id held)
       (is.stays component.own Normal text)
-  gives-keeps (More part place) component held id text =
-      makes-keeps (nat_lt TEXT_LIMIT (length part.text)) component (record component { place = Making id place }) held (with_made held part.kind part.text) (length part.text) (next_id held) refl
+  gives-keeps (More product place) component held id text =
+      makes-keeps (nat_lt TEXT_LIMIT (length product.text)) component (record component { place = Making id place }) held (with_made held product.kind product.text) (length product.text) (next_id held) refl
 
   meets-keeps : (kind : Kind) (component : Mapped K) (held : Held) (id : ℕ) (text : List ℕ) → Keeps component (meets mapping component held id kind text)
   meets-keeps Normal component held id text = gives-keeps (mapping.next component.own text 0) component held id text

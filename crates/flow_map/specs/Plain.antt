@@ -1,5 +1,5 @@
 -- Kinds of this form that have one output and keep nothing from packet to packet; and those of them that make one packet of a text.
-use Rattle.std.specs.Prelude.{◌≡◌, ℕ, List, [], ◌∷◌, ◌++◌, map, Option, Some, None, Bool, true, false, if◌then◌else◌}
+use Rattle.std.specs.Prelude.{◌≡◌, ℕ, List, [], ◌∷◌, ◌++◌, map, Option, Some, None, true, false, if◌then◌else◌}
 use Rattle.std.specs.List.{flat_map}
 use Rattle.flow_packet.specs.declared.packet.Kind.{Kind}
 use Rattle.flow_packet.specs.declared.packet.Kind.TheVariants.{Normal, Open, Close}
@@ -15,7 +15,7 @@ plain_mapping last_place next = record { second = λ own. None; last_place = las
 
 -- What a packet becomes: the packets that are made, and itself.
 abbrev pub became_all : Becoming → Tree → List Tree
-became_all became packet = map packet_made became.parts ++ (if became.itself then packet ∷ [] else [])
+became_all became packet = map packet_made became.products ++ (if became.itself then packet ∷ [] else [])
 
 -- A Normal packet becomes what its text does, and a bracket stays as it is.
 abbrev pub became_as : (List ℕ → Becoming) → Kind → Tree → List Tree
@@ -39,8 +39,8 @@ once_next (Some text) = Last (record { kind = Normal; text = text })
 
 -- What becomes of it.
 abbrev pub once : Option (List ℕ) → Becoming
-once None = record { parts = []; itself = true }
-once (Some text) = record { parts = record { kind = Normal; text = text } ∷ []; itself = false }
+once None = record { products = []; itself = true }
+once (Some text) = record { products = record { kind = Normal; text = text } ∷ []; itself = false }
 
 -- A mapping by the new text that there is for a text, if there is one.
 abbrev pub once_mapping : {K : Type 0} → (K → List ℕ → Option (List ℕ)) → Mapping K

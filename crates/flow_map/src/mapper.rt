@@ -10,7 +10,7 @@ ghost use Rattle.flow_component.specs.Alone.{HoldsOnly};
 ghost use Rattle.flow_component.specs.Resumes.{Resumes};
 ghost use Rattle.flow_map.specs.Mapping.{Mapping, IsMapping, IsReadyOn, gives, gives_from, passes, goes_on, waiting, itself_port, Over, Itself, Last, More};
 ghost use Rattle.flow_map.specs.Becoming.{Becoming, IsBecoming};
-ghost use Rattle.flow_map.specs.Telling.{Tells, IsMadeOf, part_of};
+ghost use Rattle.flow_map.specs.Telling.{Tells, IsMadeOf, product_of};
 
 use flow_component::{Answer, Component, Fail, Port, Shape, Stop, Wish};
 use flow_packet::{Hands, HandsStop, Kind, PacketId};
@@ -86,10 +86,7 @@ pub trait Maps: Drop {
 pub enum MapperPlace {
     Waiting,
     /// It has begun with this packet, and goes on from this place of its text.
-    Making {
-        packet: PacketId,
-        place: usize,
-    },
+    Making { packet: PacketId, place: usize },
 }
 
 /// A component that maps, as its kind says.
@@ -113,7 +110,7 @@ fn make(hands: &mut Hands, packet: PacketId, made: Made) -> Result<PacketId, All
     requires made { IsMadeOf (text_at hands.old.packets packet) made }
     requires room { hands.old.made < 4294967295 }
     ensures id { IfOk result (λ id. id ≡ new_id hands.old) }
-    ensures made { OnOk result (hands.new ≡ record hands.old { made = hands.old.made + 1; packets = hands.old.packets ++ packet_of (new_id hands.old) (part_of (text_at hands.old.packets packet) made).kind (part_of (text_at hands.old.packets packet) made).text [] ∷ []; spare = hands.new.spare }) }
+    ensures made { OnOk result (hands.new ≡ record hands.old { made = hands.old.made + 1; packets = hands.old.packets ++ packet_of (new_id hands.old) (product_of (text_at hands.old.packets packet) made).kind (product_of (text_at hands.old.packets packet) made).text [] ∷ []; spare = hands.new.spare }) }
     ensures err { OnErr result (held_of hands.new ≡ held_of hands.old) }
     ensures dropped { hands.new.dropped ≡ hands.old.dropped }
 {
@@ -176,16 +173,11 @@ impl<M: Maps> Mapper<M> {
     }
 
     // The last packet is made, and the other one dropped.
-    fn make_last(
-        &mut self,
-        hands: &mut Hands,
-        packet: PacketId,
-        made: Made,
-    ) -> Result<Wish, Stop>
+    fn make_last(&mut self, hands: &mut Hands, packet: PacketId, made: Made) -> Result<Wish, Stop>
         requires alone { HoldsOnly (held_of hands.old) packet }
         requires made { IsMadeOf (text_at hands.old.packets packet) made }
         requires room { hands.old.made < 4294967295 }
-        ensures { Resumes (λ component held _ outcome. outcome ≡ gives M.mapping component held packet (text_at held.packets packet) (Last (part_of (text_at held.packets packet) made))) self.old hands.old Answer.Sent result self.new hands.new }
+        ensures { Resumes (λ component held _ outcome. outcome ≡ gives M.mapping component held packet (text_at held.packets packet) (Last (product_of (text_at held.packets packet) made))) self.old hands.old Answer.Sent result self.new hands.new }
     {
         let Ok(id) = make(hands, packet, made) else {
             return Err(Stop::NoMemory);
@@ -208,7 +200,7 @@ impl<M: Maps> Mapper<M> {
         requires short { length (text_at hands.old.packets packet) ≤ TEXT_LIMIT }
         requires made { IsMadeOf (text_at hands.old.packets packet) made }
         requires room { hands.old.made < 4294967295 }
-        ensures { Resumes (λ component held _ outcome. outcome ≡ gives M.mapping component held packet (text_at held.packets packet) (More (part_of (text_at held.packets packet) made) place)) self.old hands.old Answer.Sent result self.new hands.new }
+        ensures { Resumes (λ component held _ outcome. outcome ≡ gives M.mapping component held packet (text_at held.packets packet) (More (product_of (text_at held.packets packet) made) place)) self.old hands.old Answer.Sent result self.new hands.new }
     {
         let Ok(id) = make(hands, packet, made) else {
             return Err(Stop::NoMemory);
