@@ -10,7 +10,7 @@ mod explain;
 mod own;
 mod words;
 
-use crate::explain::explain;
+use crate::explain::{Fault, explain, foresee};
 use crate::own::call;
 use flow_cli::Status;
 use flow_explain::{expect_kept, words_of};
@@ -27,15 +27,18 @@ fn main(rt: HostRuntime) -> ExitCode {
     if expect_kept(alloc, &mut shelf, &words).is_err() {
         return ExitCode::from(Status::NoMemory.code());
     }
+    foresee(alloc, &rt, &words);
     let mut out = StdSink::new(&rt);
-    let Ok(outcome) = call(&rt, alloc, &words, &mut shelf, &mut out) else {
+    let mut err = StdSink::new(rt.stderr());
+    let Ok(outcome) = call(&rt, alloc, &words, &mut shelf, &mut out, &mut err) else {
         return ExitCode::from(Status::NoMemory.code());
     };
     let status = outcome.status;
-    let reason = match out.reason() {
-        Some(reason) => Some(reason),
-        None => shelf.reason(),
+    let printing = out.reason().or(err.reason());
+    let fault = Fault {
+        reason: printing.or(shelf.reason()),
+        file: if printing.is_none() { shelf.last() } else { None },
     };
-    explain(alloc, &rt, &words, status, reason);
+    explain(alloc, &rt, &words, status, fault);
     ExitCode::from(status.code())
 }

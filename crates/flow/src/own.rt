@@ -26,12 +26,13 @@ pub fn own_kinds(alloc: Global) -> Result<Vec<KindSpec>, AllocError>
 }
 
 /// Makes the top call that the words ask for, with PARTS parts of the kind Number. An error says that there was no memory for them; then nothing was read or written.
-pub fn call<R: Threads + Wait + Sync, F: Shelf, O: Sink>(
+pub fn call<R: Threads + Wait + Sync, F: Shelf, O: Sink, E: Sink>(
     rt: &R,
     alloc: Global,
     words: &[String],
     shelf: &mut F,
     out: &mut O,
+    err: &mut E,
 ) -> Result<Outcome, AllocError> {
     let mut parts: Vec<Box<dyn Part + Send>> = Vec::new(alloc);
     for _ in 0..PARTS {
@@ -42,8 +43,10 @@ pub fn call<R: Threads + Wait + Sync, F: Shelf, O: Sink>(
     own.push(OwnKind { spec, parts })?;
     number_is_an_own_kind();
     if needs_workers(alloc, words)? {
-        Ok(busy_top(rt, alloc, words, shelf, out, &NoGate, own))
+        Ok(busy_top(
+            rt, alloc, words, shelf, out, err, &NoGate, own,
+        ))
     } else {
-        Ok(plain_top(alloc, words, shelf, out, own))
+        Ok(plain_top(alloc, words, shelf, out, err, own))
     }
 }

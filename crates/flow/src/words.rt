@@ -22,7 +22,7 @@ struct Asked {
     takes_net: bool,
 }
 
-const OPTIONS: [Asked; 8] = [
+const OPTIONS: [Asked; 13] = [
     Asked {
         name: "--check",
         value: Value::Nothing,
@@ -44,7 +44,13 @@ const OPTIONS: [Asked; 8] = [
     Asked {
         name: "--journal",
         value: Value::File,
-        beside: &["--tapes", "--workers"],
+        beside: &[
+            "--tapes",
+            "--workers",
+            "--report",
+            "--quiet",
+            "--brief",
+        ],
         takes_net: true,
     },
     Asked {
@@ -65,7 +71,14 @@ const OPTIONS: [Asked; 8] = [
     Asked {
         name: "--tapes",
         value: Value::File,
-        beside: &["--journal", "--replay", "--workers"],
+        beside: &[
+            "--journal",
+            "--workers",
+            "--report",
+            "--quiet",
+            "--brief",
+            "--replay",
+        ],
         takes_net: true,
     },
     Asked {
@@ -74,29 +87,68 @@ const OPTIONS: [Asked; 8] = [
             least: 0,
             most: WORKER_LIMIT,
         },
-        beside: &["--journal", "--make", "--tapes"],
+        beside: &[
+            "--journal",
+            "--tapes",
+            "--report",
+            "--quiet",
+            "--brief",
+            "--make",
+        ],
+        takes_net: true,
+    },
+    Asked {
+        name: "--report",
+        value: Value::File,
+        beside: &[
+            "--journal",
+            "--tapes",
+            "--workers",
+            "--quiet",
+            "--brief",
+        ],
+        takes_net: true,
+    },
+    Asked {
+        name: "--quiet",
+        value: Value::Nothing,
+        beside: &[
+            "--journal",
+            "--tapes",
+            "--workers",
+            "--report",
+            "--brief",
+        ],
+        takes_net: true,
+    },
+    Asked {
+        name: "--brief",
+        value: Value::Nothing,
+        beside: &[
+            "--journal",
+            "--tapes",
+            "--workers",
+            "--report",
+            "--quiet",
+        ],
+        takes_net: true,
+    },
+    Asked {
+        name: "--help",
+        value: Value::Nothing,
+        beside: &[],
+        takes_net: true,
+    },
+    Asked {
+        name: "--version",
+        value: Value::Nothing,
+        beside: &[],
         takes_net: true,
     },
 ];
 
-/// What the program can be asked for.
-pub fn put_help(page: &mut String) -> Result<(), AllocError> {
-    write!(
-        page,
-        "flow NETFILE                 runs the network of the file, and prints a report
-flow --journal FILE NETFILE  does so, and writes the journal of the run to FILE
-flow --tapes FILE NETFILE    does so, and writes the tapes of its parts to FILE; with --replay these are played
-flow --check NETFILE         prints the canonical spelling of the file, and runs nothing
-flow --determinate NETFILE   tells whether every run of the network on the same files ends in one state
-flow --kinds                 prints the kinds of processes, each with its ports and options
-flow --replay FILE NETFILE   makes the turns of the journal in FILE again
-flow --make N                runs the network that is made from N, a number from 1 to {NUMBER_LIMIT}
-flow --workers N NETFILE     runs the network by N workers, each in a thread of its own: 1 to {WORKER_LIMIT}, or 0
-                             for none; so do the other runs, with --journal, --tapes or --make
-flow -- NETFILE              runs a file whose name begins with -
-"
-    )
-}
+/// The options of a page, which is printed whatever stands beside them.
+const PAGES: [&str; 2] = ["--help", "--version"];
 
 // The words as far as they are read.
 #[derive(Drop)]
@@ -111,6 +163,11 @@ struct Read<'a> {
 
 fn named(name: &str) -> Option<Asked> {
     OPTIONS.iter().find(|option| option.name == name).copied()
+}
+
+// Whether an option asks for a page.
+fn is_page(option: &Asked) -> bool {
+    PAGES.iter().any(|page| *page == option.name)
 }
 
 // Whether a word is neither a name nor a value.
@@ -186,6 +243,7 @@ impl<'a> Read<'a> {
             self.names = true;
             return Ok(true);
         }
+        let word = if word == "-h" { "--help" } else { word };
         let (name, value) = match word.split_once('=') {
             Some((name, value)) => (name, Some(value)),
             None => (word, None),
@@ -217,7 +275,8 @@ impl<'a> Read<'a> {
             return say(page, option.name, " is given twice.\n");
         }
         for given in &self.given {
-            if !given.beside.iter().any(|name| *name == option.name) {
+            let pages = is_page(given) || is_page(&option);
+            if !pages && !given.beside.iter().any(|name| *name == option.name) {
                 page.push_str(given.name)?;
                 page.push_str(" and ")?;
                 return say(page, option.name, " don't go together.\n");
@@ -239,6 +298,9 @@ impl<'a> Read<'a> {
     fn end(&self, page: &mut String) -> Result<(), AllocError> {
         if let Some(option) = self.open {
             missing(page, option)?;
+            return Ok(());
+        }
+        if self.given.iter().any(is_page) {
             return Ok(());
         }
         let without = self.given.iter().find(|given| !given.takes_net);

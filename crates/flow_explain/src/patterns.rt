@@ -7,8 +7,8 @@ use crate::shown::put_behind;
 use flow_pattern::{is_too_large, slip_in};
 use std::alloc::{AllocError, Global};
 
-// The text that a line gives, as it is spelled between its quotes; none where it gives none.
-fn spelled<'a>(alloc: Global, found: &Found<'a>) -> Result<Option<&'a [u8]>, AllocError> {
+/// The text that a line gives, as it is spelled between its quotes; none where it gives none.
+pub fn spelled<'a>(alloc: Global, found: &Found<'a>) -> Result<Option<&'a [u8]>, AllocError> {
     let pieces = pieces(alloc, found.version, found.line)?;
     match pieces.first().copied() {
         Some(Piece::Quoted(spelled)) => Ok(Some(spelled)),
@@ -16,8 +16,8 @@ fn spelled<'a>(alloc: Global, found: &Found<'a>) -> Result<Option<&'a [u8]>, All
     }
 }
 
-// A text without the quotes that are doubled in its spelling.
-fn text_of(alloc: Global, spelled: &[u8]) -> Result<Vec<u8>, AllocError> {
+/// A text without the quotes that are doubled in its spelling.
+pub fn text_of(alloc: Global, spelled: &[u8]) -> Result<Vec<u8>, AllocError> {
     let mut text = Vec::new(alloc);
     let mut is_second = false;
     for byte in spelled {

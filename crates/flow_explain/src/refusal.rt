@@ -48,8 +48,8 @@ pub fn put_too_large<R: Files<File = File> + Eprint + Drop>(
     }
 }
 
-// The bytes of the file of this name, where it is a regular one that can be read.
-fn bytes_of<R: Files<File = File> + Eprint + Drop>(
+/// The bytes of the file of this name, where it is a regular one that can be read.
+pub fn bytes_of<R: Files<File = File> + Eprint + Drop>(
     alloc: Global,
     rt: &R,
     name: &str,

@@ -6,7 +6,7 @@ use Rattle.std.specs.declared.result.Result.{Result}
 use Rattle.flow_limits.specs.declared.TheConstants.{NUMBER_LIMIT, WORKER_LIMIT}
 use Rattle.flow_text.specs.Edge.{Outside, Name, Logged}
 use Rattle.flow_plan.specs.Network.{Network}
-use Rattle.flow_words.specs.Words.{AskedRun, run_of, run_by, Check, Judge, Replay, Make, Kinds}
+use Rattle.flow_words.specs.Words.{AskedRun, run_of, run_by, Check, Judge, Replay, Make, Page}
 use Rattle.flow_parse.specs.declared.value.NetText.{NetText}
 use Rattle.flow_journal.specs.declared.merge.Journal.{Journal}
 use Rattle.flow_plan.specs.declared.kind.KindSpec.{KindSpec}
@@ -115,5 +115,5 @@ Prepares own old new words (Ok (tasks.Judge plan)) = (name : Name) × Asks words
     × ((net : List ℕ) × (text : NetText) × OnlyReads old new (whole (name, net) ∷ []) × IsFile (specs_of own) old.files name net text plan)
 Prepares own old new words (Ok (tasks.Replay again)) = (name : Name) × (kept : Name) × (tapes : Option Name) × Asks words (Replay name kept tapes) × IsReadyAgain (specs_of own) old new name kept tapes again
 Prepares own old new words (Ok (tasks.Make number workers)) = AsksMake old new words number workers
-Prepares own old new words (Ok tasks.Kinds) = Asks words Kinds × (new ≡ old)
+Prepares own old new words (Ok (tasks.Page page)) = Asks words (Page page) × (new ≡ old)
 Prepares own old new words (Err stop) = (recorded : Recorded) → IsNothing recorded → HasCause (so_far words own old new recorded) stop

@@ -24,7 +24,7 @@ use flow_parse::NetText;
 use flow_plan::{KindSpec, Plan};
 use flow_played::Played;
 use flow_text::Shelf;
-use flow_words::{Command, RunCommand, command};
+use flow_words::{Command, Page, RunCommand, command};
 use std::alloc::{AllocError, Global};
 
 /// A network that can run: its plan, and the components of its processes on what their files hold.
@@ -51,8 +51,8 @@ pub enum Task<'a, K: Component> {
     Check(NetText),
     /// Whether this plan is determinate is to be told.
     Judge(Plan),
-    /// The page of the standard kinds is to be printed.
-    Kinds,
+    /// This page is to be printed.
+    Page(Page),
     /// The turns of a journal are to be made again.
     Replay(Again),
     /// The network that is made from this number is to run by so many workers, or on one thread where there are none.
@@ -90,7 +90,7 @@ pub fn prepare<'a, F: Shelf, P: Part>(
             Ok(file) => Ok(Task::Judge(file.plan)),
             Err(stop) => Err(stop),
         },
-        Command::Kinds => Ok(Task::Kinds),
+        Command::Page(page) => Ok(Task::Page(page)),
         Command::Replay {
             net,
             journal,

@@ -110,7 +110,8 @@ pub fn call_alone_with<P: Part>(
     }
     let mut shelf = shelf_of(alloc, files)?;
     let mut out = sink_of(alloc)?;
-    let outcome = plain_top(alloc, &words, &mut shelf, &mut out, own);
+    let mut err = sink_of(alloc)?;
+    let outcome = plain_top(alloc, &words, &mut shelf, &mut out, &mut err, own);
     Ok(told(alloc, outcome, shelf, &out)?)
 }
 
@@ -133,12 +134,14 @@ pub fn call_by_workers<R: Threads + Wait + Sync, G: Gate + Sync>(
     }
     let mut shelf = shelf_of(alloc, files)?;
     let mut out = sink_of(alloc)?;
+    let mut err = sink_of(alloc)?;
     let outcome = busy_top(
         rt,
         alloc,
         &words,
         &mut shelf,
         &mut out,
+        &mut err,
         gate,
         no_kinds(alloc),
     );

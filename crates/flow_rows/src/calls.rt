@@ -81,8 +81,17 @@ fn call_flow<R: Threads + Wait + Sync>(
     let words = words_of(alloc, line)?;
     let mut shelf = around.shelf()?;
     let mut out = around.sink()?;
-    let outcome = run_flow(rt, alloc, around.parts, &words, &mut shelf, &mut out)?;
-    Ok(Came::of(alloc, &outcome, shelf, &out)?)
+    let mut err = around.err_sink()?;
+    let outcome = run_flow(
+        rt,
+        alloc,
+        around.parts,
+        &words,
+        &mut shelf,
+        &mut out,
+        &mut err,
+    )?;
+    Ok(Came::of(alloc, &outcome, shelf, &out, &err)?)
 }
 
 // The call itself.
@@ -93,13 +102,14 @@ fn run_flow<R: Threads + Wait + Sync>(
     words: &[String],
     shelf: &mut MemShelf,
     out: &mut MemSink,
+    err: &mut MemSink,
 ) -> Result<Outcome, AllocError> {
     let by_workers = needs_workers(alloc, words)?;
     let own = own_kinds(alloc, parts)?;
     if by_workers {
-        return Ok(busy_top(rt, alloc, words, shelf, out, &NoGate, own));
+        return Ok(busy_top(rt, alloc, words, shelf, out, err, &NoGate, own));
     }
-    Ok(plain_top(alloc, words, shelf, out, own))
+    Ok(plain_top(alloc, words, shelf, out, err, own))
 }
 
 // What the program `draw` does with these words.

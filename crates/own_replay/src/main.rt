@@ -50,10 +50,13 @@ fn main(rt: HostRuntime) -> ExitCode {
         return no_memory();
     }
     let mut out = StdSink::new(&rt);
+    let mut err = StdSink::new(rt.stderr());
     let outcome = if needs {
-        busy_top(&rt, alloc, &words, &mut shelf, &mut out, &NoGate, own)
+        busy_top(
+            &rt, alloc, &words, &mut shelf, &mut out, &mut err, &NoGate, own,
+        )
     } else {
-        plain_top(alloc, &words, &mut shelf, &mut out, own)
+        plain_top(alloc, &words, &mut shelf, &mut out, &mut err, own)
     };
     ExitCode::from(outcome.status.code())
 }
