@@ -4,7 +4,7 @@
 _flow_words() {
     local word=${COMP_WORDS[COMP_CWORD]} before=${COMP_WORDS[COMP_CWORD - 1]} options
     case ${COMP_WORDS[0]##*/} in
-    draw) options='--dot --help --journal --version' ;;
+    draw) options='--dot --journal' ;;
     *) options='--brief --check --determinate --help --journal --kinds --make --quiet --replay --report --tapes --version --workers' ;;
     esac
     COMPREPLY=()
