@@ -37,7 +37,11 @@ fn main(rt: HostRuntime) -> ExitCode {
     let printing = out.reason().or(err.reason());
     let fault = Fault {
         reason: printing.or(shelf.reason()),
-        file: if printing.is_none() { shelf.last() } else { None },
+        file: if printing.is_none() {
+            shelf.last()
+        } else {
+            None
+        },
     };
     explain(alloc, &rt, &words, status, fault);
     ExitCode::from(status.code())

@@ -43,9 +43,7 @@ pub fn call<R: Threads + Wait + Sync, F: Shelf, O: Sink, E: Sink>(
     own.push(OwnKind { spec, parts })?;
     number_is_an_own_kind();
     if needs_workers(alloc, words)? {
-        Ok(busy_top(
-            rt, alloc, words, shelf, out, err, &NoGate, own,
-        ))
+        Ok(busy_top(rt, alloc, words, shelf, out, err, &NoGate, own))
     } else {
         Ok(plain_top(alloc, words, shelf, out, err, own))
     }

@@ -44,13 +44,7 @@ const OPTIONS: [Asked; 13] = [
     Asked {
         name: "--journal",
         value: Value::File,
-        beside: &[
-            "--tapes",
-            "--workers",
-            "--report",
-            "--quiet",
-            "--brief",
-        ],
+        beside: &["--tapes", "--workers", "--report", "--quiet", "--brief"],
         takes_net: true,
     },
     Asked {
@@ -100,37 +94,19 @@ const OPTIONS: [Asked; 13] = [
     Asked {
         name: "--report",
         value: Value::File,
-        beside: &[
-            "--journal",
-            "--tapes",
-            "--workers",
-            "--quiet",
-            "--brief",
-        ],
+        beside: &["--journal", "--tapes", "--workers", "--quiet", "--brief"],
         takes_net: true,
     },
     Asked {
         name: "--quiet",
         value: Value::Nothing,
-        beside: &[
-            "--journal",
-            "--tapes",
-            "--workers",
-            "--report",
-            "--brief",
-        ],
+        beside: &["--journal", "--tapes", "--workers", "--report", "--brief"],
         takes_net: true,
     },
     Asked {
         name: "--brief",
         value: Value::Nothing,
-        beside: &[
-            "--journal",
-            "--tapes",
-            "--workers",
-            "--report",
-            "--quiet",
-        ],
+        beside: &["--journal", "--tapes", "--workers", "--report", "--quiet"],
         takes_net: true,
     },
     Asked {

@@ -123,11 +123,7 @@ impl PrintedReport {
         if asked.quiet && has_all_done(self.verdict) {
             return b"";
         }
-        if asked.brief {
-            &self.brief
-        } else {
-            &self.text
-        }
+        if asked.brief { &self.brief } else { &self.text }
     }
 }
 

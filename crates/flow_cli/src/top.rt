@@ -323,12 +323,7 @@ fn print_report<O: Sink, E: Sink>(
 }
 
 /// Prints the text of a stop, and gives the status that comes of it.
-fn print_stop<O: Sink, E: Sink>(
-    alloc: Global,
-    out: &mut O,
-    err: &mut E,
-    stop: &Stop,
-) -> Status
+fn print_stop<O: Sink, E: Sink>(alloc: Global, out: &mut O, err: &mut E, stop: &Stop) -> Status
     ensures { PrintsStop (outputs_at (O.outside out.old) (E.outside err.old)) (outputs_at (O.outside out.new) (E.outside err.new)) stop.now result }
 {
     match stop.text(alloc) {

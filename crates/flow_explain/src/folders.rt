@@ -11,7 +11,8 @@ use flow_words::{Command, RunCommand, command};
 use std::alloc::{AllocError, Global};
 use std::fs::{File, Files};
 
-const NO_FOLDER: &str = "Its folder isn't there: this file can't be written when the network has run.\n";
+const NO_FOLDER: &str =
+    "Its folder isn't there: this file can't be written when the network has run.\n";
 
 /// Tells which files of the run that these words ask for have no folder to stand in.
 pub fn put_folders<R: Files<File = File> + Eprint + Drop>(
@@ -41,11 +42,7 @@ fn has_folder<R: Files>(rt: &R, name: &str) -> bool {
 }
 
 // Tells of the files that the options of a run name.
-fn put_kept<R: Files>(
-    rt: &R,
-    page: &mut String,
-    asked: &RunCommand<'_>,
-) -> Result<(), AllocError> {
+fn put_kept<R: Files>(rt: &R, page: &mut String, asked: &RunCommand<'_>) -> Result<(), AllocError> {
     put_option(rt, page, "--journal", asked.journal)?;
     put_option(rt, page, "--tapes", asked.tapes)?;
     put_option(rt, page, "--report", asked.report.file)

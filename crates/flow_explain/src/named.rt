@@ -151,7 +151,12 @@ fn is_for(alloc: Global, net: &[u8], found: &Found<'_>, used: Use) -> Result<boo
 pub fn put_process_of(page: &mut String, found: &Found<'_>) -> Result<(), AllocError> {
     put_found(page, found)?;
     match found.said.to {
-        Some(mention) => put_between(page, "This is the file of the process ", mention.process, ".\n"),
+        Some(mention) => put_between(
+            page,
+            "This is the file of the process ",
+            mention.process,
+            ".\n",
+        ),
         None => Ok(()),
     }
 }

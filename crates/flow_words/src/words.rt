@@ -107,13 +107,7 @@ fn report_file<'a>(name: Option<&'a str>) -> Option<&'a str>
 {
     match name {
         None => None,
-        Some(name) => {
-            if name == "-" {
-                None
-            } else {
-                Some(name)
-            }
-        }
+        Some(name) => { if name == "-" { None } else { Some(name) } }
     }
 }
 
