@@ -12,6 +12,8 @@ mod journals;
 #[cfg(test)]
 mod lists;
 #[cfg(test)]
+mod maps;
+#[cfg(test)]
 mod passers;
 #[cfg(test)]
 mod picks;
