@@ -132,7 +132,7 @@ module _ {K : Type 0} (rules : Rules K) (lawful : Lawful rules)
   no-level s p x n e settled there is port level learns =
       let at = explains s.kept.channels x n (Learns port level) (is ∙ ap Some learns) in
       let was = settled.fit.valid.each p x there in
-      let below : x.held.made < 4294967296 = omega (arith, was.made, was.turns) in
+      let below : x.held.made < 4294967296 = omega (arith, was.made, was.turns, was.limit) in
       let sound = sound-hands s p x there was.maker below settled.fit.valid.one_place in
       let now : rules.ready x.component x.held (answers.Level 0) = subst (ReadyAt (rules.ready x.component) x.held) at.stage was.is_ready 0 (omega arith) sound in
       only.told_none x.component x.held 0 (settled.asks p x there) now

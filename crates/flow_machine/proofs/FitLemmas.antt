@@ -179,7 +179,7 @@ module _ {K : Type 0} (rules : Rules K) where
           let good = Fit-turn rules s p e s' (turn-in net s p 0 b e fit.stands there happens) fit.fit in
           let there' : slice_get s'.kept.processes p ≡ Some (process_after b.process e) = slice_get-set_same s.kept.processes p b.process (process_after b.process e) (process-in net s p b fit.stands there) in
           let each = good.valid.each p (process_after b.process e) there' in
-          sound-hands s' p (process_after b.process e) there' each.maker (omega (arith, each.made, each.turns)) good.valid.one_place
+          sound-hands s' p (process_after b.process e) there' each.maker (omega (arith, each.made, each.turns, each.limit)) good.valid.one_place
 
   -- so few turns were made
   turns-few : (bodies : List (BodyValue K)) (m : ℕ) → ((p : ℕ) (b : BodyValue K) → slice_get bodies p ≡ Some b → b.process.turns ≤ m) → sum_by (λ (x : BodyValue K). x.process.turns) bodies ≤ length bodies * m
@@ -191,7 +191,7 @@ module _ {K : Type 0} (rules : Rules K) where
 
   pub turns-most : (net : NetValue K) → FitNet rules net → turns_made net ≤ RUN_LIMIT
   turns-most net fit =
-      let each = turns-few net.bodies TURN_LIMIT (λ p b is. omega (arith, (fit.fit.valid.each p b.process (process-in net fit.state p b fit.stands is)).turns)) in
+      let each = turns-few net.bodies TURN_LIMIT (λ p b is. (let good = fit.fit.valid.each p b.process (process-in net fit.state p b fit.stands is) in omega (arith, good.turns, good.limit))) in
       omega (arith, each, fit.few)
 
   pub get-below : {A : Type 0} (xs : List A) (i : ℕ) (x : A) → slice_get xs i ≡ Some x → i < length xs
@@ -276,7 +276,7 @@ module _ {K : Type 0} (rules : Rules K) (lawful : Lawful rules) where
       let s' : State K = state-worked s p x outcome in
       let step : Work rules s p s' = record { before = x; outcome = outcome; kept = record { answer = work.answer; there = at; told = work.told; comes = work.comes; processes = refl; channels = refl }; past = refl } in
       let was = fit.valid.each p x at in
-      let below : x.held.made < 4294967296 = omega (arith, was.made, was.turns) in
+      let below : x.held.made < 4294967296 = omega (arith, was.made, was.turns, was.limit) in
       let sound = sound-hands s p x at was.maker below fit.valid.one_place in
       let now : rules.ready x.component x.held work.answer = (subst (ReadyAt (rules.ready x.component) x.held) work.told was.is_ready) sound in
       let works = comes x.held (held_after outcome) (comes-of (rules.shape x.component) (rules.uses x.component) x.held outcome (lawful.obeys x.component x.held work.answer outcome now work.comes)) in

@@ -193,7 +193,7 @@ module _ {K : Type 0} (rules : Rules K) (net : NetValue K) (fit : FitNet rules n
       by None = omega arith
 
   made-few : (p : ℕ) (x : Process K) → slice_get s.kept.processes p ≡ Some x → x.held.made ≤ 2 * TURN_LIMIT
-  made-few p x is = let g = fit.fit.valid.each p x is in omega (arith, g.made, g.turns)
+  made-few p x is = let g = fit.fit.valid.each p x is in omega (arith, g.made, g.turns, g.limit)
 
   sum-most : (m : ℕ) (xs : List (Process K)) → ((i : ℕ) (x : Process K) → slice_get xs i ≡ Some x → x.held.made ≤ m) → sum_by (λ (x : Process K). x.held.made) xs ≤ length xs * m
   sum-most m [] each = omega arith

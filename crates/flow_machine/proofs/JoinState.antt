@@ -250,7 +250,7 @@ module _ {K : Type 0} (rules : Rules K) (net : NetValue K) (j : Joins rules net)
 
   -- every packet that was made is somewhere
   made-few : (i : ℕ) (x : Process K) → slice_get ps i ≡ Some x → x.held.made ≤ 2 * TURN_LIMIT
-  made-few i x is = let b = body-at i x is in let g = (j.bodies i b.0 b.1).good in let e : x.held.made ≡ b.0.process.held.made = ap (λ (y : Process K). y.held.made) (sym b.2) in omega (arith, g.made, g.turns, e)
+  made-few i x is = let b = body-at i x is in let g = (j.bodies i b.0 b.1).good in let e : x.held.made ≡ b.0.process.held.made = ap (λ (y : Process K). y.held.made) (sym b.2) in omega (arith, g.made, g.turns, g.limit, e)
 
   times-left : (id : ℕ) → times id left ≡ places_count net id
   times-left id = times-append id (ids_in_hands ps) (flat_map (λ (k : ChannelShown). all_ids k.packets) net.channels) ∙ omega (arith, times-flat id (λ (x : Process K). held_ids x.held) ps, times-flat id (λ (k : ChannelShown). all_ids k.packets) net.channels)

@@ -1,5 +1,4 @@
 -- A process that stands well goes on to stand well.
-use Rattle.flow_limits.specs.declared.TheConstants.{TURN_LIMIT}
 use Rattle.std.proofs.Common.{◌≡◌, ℕ, ◌+◌, ◌*◌, ◌<◌, ◌≤◌, Bool, true, false, cond, List, [], ◌∷◌, length, Some, Option, nat_lt, nat_eq, refl, ap, sym, subst, ◌∙◌, arith, slice_get, slice_set, slice_index, length-set, get_or-set_same, get_or-set_other, suc, zero, ◌⊎◌, inl, inr, IsSome, IsTrue}
 use Rattle.std.specs.Prelude.{◌^◌}
 use Rattle.std.proofs.lemmas.Bool.Decides.{nat_tests}
@@ -73,27 +72,28 @@ less_or n m t most = grind (arith, nat_tests)
 module _ {K : Type 0} (rules : Rules K) where
   -- so few packets were made
   pub few-made : (x : Process K) → StandsWell rules x → x.held.made < 4294967295
-  few-made x well = omega (arith, well.good.made, well.good.turns)
+  few-made x well = omega (arith, well.good.made, well.good.turns, well.good.limit)
 
   -- A process that was told an answer by its turn.
-  pub stands-told : (x y : Process K) (answer : Answer) → StandsWell rules x → x.turns < TURN_LIMIT → y.stage ≡ limited (x.turns + 1) (stages.Told answer) → y.turns ≡ x.turns + 1 → y.component ≡ x.component → y.inputs ≡ x.inputs → y.outputs ≡ x.outputs
+  pub stands-told : (x y : Process K) (answer : Answer) → StandsWell rules x → x.turns < x.limit → y.stage ≡ limited x.limit (x.turns + 1) (stages.Told answer) → y.turns ≡ x.turns + 1 → y.limit ≡ x.limit → y.component ≡ x.component → y.inputs ≡ x.inputs → y.outputs ≡ x.outputs
       → length y.depths ≡ length x.depths → length y.fresh ≡ length x.fresh → ((port : ℕ) → slice_index y.depths port ≤ y.turns) → Sound y.held → y.held.made ≤ x.held.made + 1 → owed x.stage ≡ 0
       → ReadyIfSound (rules.ready x.component) y.held answer → StandsWell rules y
-  stands-told x y answer well left stage turns component inputs outputs depths fresh deep sound made owes is_ready = record {
+  stands-told x y answer well left stage turns limit component inputs outputs depths fresh deep sound made owes is_ready = record {
     good = record {
       maker = refl;
       made = omega (arith, made, turns, owed-most y.stage, well.good.made, owes);
-      turns = subst (λ (st : Stage). y.turns + least_left st ≤ TURN_LIMIT) (sym stage) (omega (arith, turns, limited-left (x.turns + 1) (stages.Told answer) (omega (arith, left))));
+      turns = subst (λ (st : Stage). y.turns + least_left st ≤ y.limit) (sym stage) (omega (arith, turns, limit, limited-left x.limit (x.turns + 1) (stages.Told answer) (omega (arith, left))));
+      limit = omega (arith, limit, well.good.limit);
       depths = depths ∙ well.good.depths ∙ ap length (sym outputs);
-      nested = subst (IsNested y) (sym stage) (limited-elim (IsNested y) (x.turns + 1) (stages.Told answer) tt tt);
+      nested = subst (IsNested y) (sym stage) (limited-elim (IsNested y) x.limit (x.turns + 1) (stages.Told answer) tt tt);
       is_ready = subst (ReadyAt (rules.ready y.component) y.held) (sym stage)
-          (limited-elim (ReadyAt (rules.ready y.component) y.held) (x.turns + 1) (stages.Told answer) tt (subst (λ (k : K). ReadyIfSound (rules.ready k) y.held answer) (sym component) is_ready));
+          (limited-elim (ReadyAt (rules.ready y.component) y.held) x.limit (x.turns + 1) (stages.Told answer) tt (subst (λ (k : K). ReadyIfSound (rules.ready k) y.held answer) (sym component) is_ready));
     };
     fit = record {
       inputs = ap (λ (k : K). (rules.shape k).inputs) component ∙ well.fit.inputs ∙ ap length (sym inputs);
       used = λ port is. (let u = well.fit.used port (subst (λ (k : K). IsTrue (rules.uses k port)) component is) in
           subst (λ (os : List (Option ℕ)). IsSome (output_in os port)) (sym outputs) u);
-      granted = subst (IsGranted y) (sym stage) (limited-elim (IsGranted y) (x.turns + 1) (stages.Told answer) tt tt);
+      granted = subst (IsGranted y) (sym stage) (limited-elim (IsGranted y) x.limit (x.turns + 1) (stages.Told answer) tt tt);
     };
     sound = sound;
     fresh = fresh ∙ well.fresh ∙ ap length (sym inputs);
@@ -119,13 +119,14 @@ module _ {K : Type 0} (rules : Rules K) where
       made-comes old new (inl keeps) = omega (arith, keeps.made)
       made-comes old new (inr one) = omega (arith, one.made)
 
-      by : (outcome : Outcome K) → ReadyAt (rules.ready (worked x outcome).component) (worked x outcome).held (worked x outcome).stage → FitProcess rules (worked x outcome) → Sound (held_after outcome) → (held_after outcome).made ≤ 2 * x.turns → x.turns + 1 ≤ TURN_LIMIT
+      by : (outcome : Outcome K) → ReadyAt (rules.ready (worked x outcome).component) (worked x outcome).held (worked x outcome).stage → FitProcess rules (worked x outcome) → Sound (held_after outcome) → (held_after outcome).made ≤ 2 * x.turns → x.turns + 1 ≤ x.limit
           → StandsWell rules (worked x outcome)
       by (Wishes component held wish) is_ready fit sound made turns = record {
         good = record {
           maker = refl;
           made = omega (arith, made, owed-worked x (Wishes component held wish));
           turns = omega (arith, turns, least_left-most (worked x (Wishes component held wish)).stage);
+          limit = well.good.limit;
           depths = well.good.depths;
           nested = nested-worked x (Wishes component held wish);
           is_ready = is_ready;
@@ -138,7 +139,7 @@ module _ {K : Type 0} (rules : Rules K) where
         few = well.few;
       }
       by (Fails component held cause) is_ready fit sound made turns = record {
-        good = record { maker = refl; made = omega (arith, made); turns = omega (arith, turns); depths = well.good.depths; nested = tt; is_ready = tt };
+        good = record { maker = refl; made = omega (arith, made); turns = omega (arith, turns); limit = well.good.limit; depths = well.good.depths; nested = tt; is_ready = tt };
         fit = fit;
         sound = sound;
         fresh = well.fresh;
@@ -148,18 +149,18 @@ module _ {K : Type 0} (rules : Rules K) where
       }
 
   -- A process that is told nothing by its turn stands well where it goes, and where it fails by the limit.
-  stands-unheard : (x : Process K) (signalled : Bool) (stage : Stage) → StandsWell rules x → x.turns < TURN_LIMIT → (let z : Stage → Process K = λ (st : Stage). record x { stage = st; turns = x.turns + 1; signalled = signalled } in
-      (owed stage ≡ 0 → IsNested (z stage) stage → ReadyAt (rules.ready x.component) x.held stage → IsGranted (z stage) stage → StandsWell rules (z (limited (x.turns + 1) stage))))
+  stands-unheard : (x : Process K) (signalled : Bool) (stage : Stage) → StandsWell rules x → x.turns < x.limit → (let z : Stage → Process K = λ (st : Stage). record x { stage = st; turns = x.turns + 1; signalled = signalled } in
+      (owed stage ≡ 0 → IsNested (z stage) stage → ReadyAt (rules.ready x.component) x.held stage → IsGranted (z stage) stage → StandsWell rules (z (limited x.limit (x.turns + 1) stage))))
   stands-unheard x signalled stage well left owes nested can granted =
-      well-at (limited (x.turns + 1) stage) (limited-elim (λ st. owed st ≡ 0) (x.turns + 1) stage refl owes) (limited-left (x.turns + 1) stage (omega (arith, left)))
-      (limited-elim (λ st. IsNested (z st) st) (x.turns + 1) stage tt nested) (limited-elim (ReadyAt (rules.ready x.component) x.held) (x.turns + 1) stage tt can) (limited-elim (λ st. IsGranted (z st) st) (x.turns + 1) stage tt granted)
+      well-at (limited x.limit (x.turns + 1) stage) (limited-elim (λ st. owed st ≡ 0) x.limit (x.turns + 1) stage refl owes) (limited-left x.limit (x.turns + 1) stage (omega (arith, left)))
+      (limited-elim (λ st. IsNested (z st) st) x.limit (x.turns + 1) stage tt nested) (limited-elim (ReadyAt (rules.ready x.component) x.held) x.limit (x.turns + 1) stage tt can) (limited-elim (λ st. IsGranted (z st) st) x.limit (x.turns + 1) stage tt granted)
     where
       z : Stage → Process K
       z stage = record x { stage = stage; turns = x.turns + 1; signalled = signalled }
 
-      well-at : (stage : Stage) → owed stage ≡ 0 → x.turns + 1 + least_left stage ≤ TURN_LIMIT → IsNested (z stage) stage → ReadyAt (rules.ready x.component) x.held stage → IsGranted (z stage) stage → StandsWell rules (z stage)
+      well-at : (stage : Stage) → owed stage ≡ 0 → x.turns + 1 + least_left stage ≤ x.limit → IsNested (z stage) stage → ReadyAt (rules.ready x.component) x.held stage → IsGranted (z stage) stage → StandsWell rules (z stage)
       well-at stage owes most nested can granted = record {
-        good = record { maker = refl; made = omega (arith, owes, well.good.made); turns = most; depths = well.good.depths; nested = nested; is_ready = can };
+        good = record { maker = refl; made = omega (arith, owes, well.good.made); turns = most; limit = well.good.limit; depths = well.good.depths; nested = nested; is_ready = can };
         fit = record { inputs = well.fit.inputs; used = well.fit.used; granted = granted };
         sound = well.sound;
         fresh = well.fresh;
@@ -169,15 +170,15 @@ module _ {K : Type 0} (rules : Rules K) where
       }
 
   -- A process that goes to its end, or on with it.
-  pub stands-closing : (x y : Process K) (place : ℕ) → StandsWell rules x → x.turns < TURN_LIMIT → y ≡ record x { stage = limited (x.turns + 1) (closing_in x.outputs place); turns = x.turns + 1 } → StandsWell rules y
+  pub stands-closing : (x y : Process K) (place : ℕ) → StandsWell rules x → x.turns < x.limit → y ≡ record x { stage = limited x.limit (x.turns + 1) (closing_in x.outputs place); turns = x.turns + 1 } → StandsWell rules y
   stands-closing x y place well left is = subst (StandsWell rules) (sym is) (by (nat_lt place (length (outlets_from 0 x.outputs))) refl)
     where
-      by : (b : Bool) → nat_lt place (length (outlets_from 0 x.outputs)) ≡ b → StandsWell rules (record x { stage = limited (x.turns + 1) (cond b (stages.Closing place) stages.Ended); turns = x.turns + 1 })
+      by : (b : Bool) → nat_lt place (length (outlets_from 0 x.outputs)) ≡ b → StandsWell rules (record x { stage = limited x.limit (x.turns + 1) (cond b (stages.Closing place) stages.Ended); turns = x.turns + 1 })
       by true t = stands-unheard x x.signalled (stages.Closing place) well left refl tt tt (let h : place < length (outlets_from 0 x.outputs) = grind (arith, nat_tests) in h)
       by false t = stands-unheard x x.signalled stages.Ended well left refl tt tt tt
 
   -- A process that still takes turns has one left.
-  pub turn-left : (x : Process K) → StandsWell rules x → least_left x.stage ≡ 1 → x.turns < TURN_LIMIT
+  pub turn-left : (x : Process K) → StandsWell rules x → least_left x.stage ≡ 1 → x.turns < x.limit
   turn-left x well one = omega (arith, well.good.turns, one)
 
   -- An idle process that took a packet from its automatic input.
@@ -188,14 +189,14 @@ module _ {K : Type 0} (rules : Rules K) where
   pub stands-text : (x : Process K) (port : Port) (text : List ℕ) → StandsWell rules x → x.stage ≡ stages.Wishing (wishes.Receive port) → StandsWell rules (process_after x (Takes_text port.0 text))
   stands-text x port text well stage =
       let now = subst (ReadyAt (rules.ready x.component) x.held) stage well.good.is_ready in
-      stands-told x (process_after x (Takes_text port.0 text)) (answers.Got (next_id x.held)) well (turn-left x well (ap least_left stage)) refl refl refl refl refl refl (length-set x.fresh port.0 false) (λ p. omega (arith, well.deep p))
+      stands-told x (process_after x (Takes_text port.0 text)) (answers.Got (next_id x.held)) well (turn-left x well (ap least_left stage)) refl refl refl refl refl refl refl (length-set x.fresh port.0 false) (λ p. omega (arith, well.deep p))
       (sound-comes x.held (with_made x.held kinds.Normal text) (inr (made-one x.held kinds.Normal text)) (few-made x well) well.sound) (omega arith) (ap owed stage) (now.2 text)
 
   -- A process that got a packet.
   pub stands-got : (x : Process K) (port : Port) (packet : Tree) → StandsWell rules x → x.stage ≡ stages.Wishing (wishes.Receive port) → Sound (with_packet x.held packet) → StandsWell rules (process_after x (Gets port.0 0 packet))
   stands-got x port packet well stage sound =
       let now = subst (ReadyAt (rules.ready x.component) x.held) stage well.good.is_ready in
-      stands-told x (process_after x (Gets port.0 0 packet)) (answers.Got (id_of packet)) well (turn-left x well (ap least_left stage)) refl refl refl refl refl refl refl (λ p. omega (arith, well.deep p)) sound (omega arith) (ap owed stage) (now.1 packet)
+      stands-told x (process_after x (Gets port.0 0 packet)) (answers.Got (id_of packet)) well (turn-left x well (ap least_left stage)) refl refl refl refl refl refl refl refl (λ p. omega (arith, well.deep p)) sound (omega arith) (ap owed stage) (now.1 packet)
 
   depth-most : (kind : Kind) (depth : ℕ) → depth_after kind depth ≤ depth + 1
   depth-most kinds.Normal depth = omega arith
@@ -218,7 +219,7 @@ module _ {K : Type 0} (rules : Rules K) where
       let y = left.before in
       let at : CanDeepen y.depths (port_at y.stage) (Some kind) = subst (λ (n : ℕ). CanDeepen y.depths n (Some kind)) (sym (ap port_at left.wished)) (
         omega (arith, port-there kind x left),
-        omega (arith, left.stood.deep left.port.0, left.stood.good.turns),
+        omega (arith, left.stood.deep left.port.0, left.stood.good.turns, left.stood.good.limit),
         subst (λ (k : Kind). IsTrue (nests k (slice_index y.depths left.port.0))) left.is_kind ((subst (IsNested y) left.wished left.stood.good.nested) left.packet left.found),
       ) in
       subst (λ (z : Process K). CanDeepen z.depths (port_at z.stage) (Some kind)) (sym left.is) at
@@ -234,9 +235,9 @@ module _ {K : Type 0} (rules : Rules K) where
       let now = subst (ReadyAt (rules.ready y.component) y.held) left.wished well.good.is_ready in
       let granted = subst (IsGranted y) left.wished well.fit.granted in
       let there : left.port.0 < length y.depths = omega (arith, within-some y.outputs left.port.0 granted.0, well.good.depths) in
-      let z : ℕ → Process K = λ port. record y { stage = limited (y.turns + 1) (stages.Told answers.Sent); turns = y.turns + 1; held = without_packet y.held left.id; depths = slice_set y.depths port (depth_after kind (slice_index y.depths port)) } in
+      let z : ℕ → Process K = λ port. record y { stage = limited y.limit (y.turns + 1) (stages.Told answers.Sent); turns = y.turns + 1; held = without_packet y.held left.id; depths = slice_set y.depths port (depth_after kind (slice_index y.depths port)) } in
       let sent : StandsWell rules (z left.port.0) =
-      stands-told y (z left.port.0) answers.Sent well (turn-left y well (ap least_left left.wished)) refl refl refl refl refl (length-set y.depths left.port.0 (depth_after kind (slice_index y.depths left.port.0))) refl
+      stands-told y (z left.port.0) answers.Sent well (turn-left y well (ap least_left left.wished)) refl refl refl refl refl refl (length-set y.depths left.port.0 (depth_after kind (slice_index y.depths left.port.0))) refl
       (deep-set y.depths left.port.0 y.turns (depth_after kind (slice_index y.depths left.port.0)) there (omega (arith, depth-most kind (slice_index y.depths left.port.0), well.deep left.port.0)) well.deep)
       (sound-comes y.held (without_packet y.held left.id) (inl (drops-keep y.held left.id)) (few-made y well) well.sound) (omega arith) (ap owed left.wished) now in
       subst (λ (w : Process K). StandsWell rules (record (at_stage w (stages.Told answers.Sent)) { depths = depths_sent w.depths (port_at w.stage) (Some kind) })) (sym left.is)

@@ -176,10 +176,10 @@ held_code =
 
 abbrev pub process_code : {K : Type 0} → Coded K → Coded (Process K)
 process_code {K} k =
-    code_by (Stage × (Bool × (K × (Held × (List Bool × (List ℕ × (ℕ × (List Input × (List (Option ℕ) × (Option ℕ × Bool))))))))))
-    (coded× stage_code (coded× coded_bool (coded× k (coded× held_code (coded× (coded_list coded_bool) (coded× (coded_list coded_ℕ) (coded× coded_ℕ (coded× (coded_list input_code) (coded× (coded_list (coded_option coded_ℕ)) (coded× (coded_option coded_ℕ) coded_bool))))))))))
-    (λ x. (x.stage, (x.has_run, (x.component, (x.held, (x.fresh, (x.depths, (x.turns, (x.inputs, (x.outputs, (x.signal, x.signalled)))))))))))
-    (λ p. record { stage = p.0; has_run = p.1.0; component = p.1.1.0; held = p.1.1.1.0; fresh = p.1.1.1.1.0; depths = p.1.1.1.1.1.0; turns = p.1.1.1.1.1.1.0; inputs = p.1.1.1.1.1.1.1.0; outputs = p.1.1.1.1.1.1.1.1.0; signal = p.1.1.1.1.1.1.1.1.1.0; signalled = p.1.1.1.1.1.1.1.1.1.1 })
+    code_by (Stage × (Bool × (K × (Held × (List Bool × (List ℕ × (ℕ × (ℕ × (List Input × (List (Option ℕ) × (Option ℕ × Bool)))))))))))
+    (coded× stage_code (coded× coded_bool (coded× k (coded× held_code (coded× (coded_list coded_bool) (coded× (coded_list coded_ℕ) (coded× coded_ℕ (coded× coded_ℕ (coded× (coded_list input_code) (coded× (coded_list (coded_option coded_ℕ)) (coded× (coded_option coded_ℕ) coded_bool)))))))))))
+    (λ x. (x.stage, (x.has_run, (x.component, (x.held, (x.fresh, (x.depths, (x.turns, (x.limit, (x.inputs, (x.outputs, (x.signal, x.signalled))))))))))))
+    (λ p. record { stage = p.0; has_run = p.1.0; component = p.1.1.0; held = p.1.1.1.0; fresh = p.1.1.1.1.0; depths = p.1.1.1.1.1.0; turns = p.1.1.1.1.1.1.0; limit = p.1.1.1.1.1.1.1.0; inputs = p.1.1.1.1.1.1.1.1.0; outputs = p.1.1.1.1.1.1.1.1.1.0; signal = p.1.1.1.1.1.1.1.1.1.1.0; signalled = p.1.1.1.1.1.1.1.1.1.1.1 })
     (λ _. refl)
 
 -- How the prover keeps a body as a value.

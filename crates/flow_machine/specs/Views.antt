@@ -17,6 +17,7 @@ process_shown state_of b = record {
   fresh = b.fresh.items;
   depths = b.depths.items;
   turns = vec_len b.stamps;
+  limit = b.limit;
   inputs = map input_shown b.inlets.items;
   outputs = b.outputs.items;
   signal = b.signal;

@@ -44,6 +44,8 @@ pub struct Body<K: Component> {
     depths: Vec<u64>,
     /// The kind of a packet that has left for its connection, while the turn that sends it isn't over.
     leaving: Option<Kind>,
+    /// How many turns it may make.
+    limit: u64,
     /// The stamps of its turns, and the level numbers that it was told with their stamps.
     stamps: Vec<u32>,
     levels: Vec<(u32, u16)>,
@@ -290,6 +292,7 @@ impl<K: Component> Body<K> {
             signalled: _,
             depths: _,
             leaving: _,
+            limit: _,
             stamps: _,
             levels: _,
             copy: _,

@@ -78,7 +78,7 @@ module _ (plan : Plan) (components : List Std) (journal : Journal) (s : State St
       let began = begins plan 0 plan.processes components p z.0 component z.1 at in
       let own : z.0.component ≡ component = ap (λ (y : Process Std). y.component) began.1 in
       let fit = well.fit p z.0 z.1 in
-      let run = Tells-run std_rules components s.kept.channels p (s.past.told p) x component at (turns-most x (valid.each p x there).turns) (told p x there) in
+      let run = Tells-run std_rules components s.kept.channels p (s.past.told p) x component at (turns-most std_rules p x (valid.each p x there)) (told p x there) in
       record {
         run = run;
         ended = ended;

@@ -40,7 +40,7 @@ closing_on-own n x stage is = is
 
 -- what a turn leads to is no wish
 after-own : {K : Type 0} (n : ℕ) (x : Process K) (e : Event) → SendsOwn n x.stage → SendsOwn n (process_after x e).stage
-after-own n x e is = limited-elim (SendsOwn n) (x.turns + 1) (stage_after x e) tt (by e)
+after-own n x e is = limited-elim (SendsOwn n) x.limit (x.turns + 1) (stage_after x e) tt (by e)
   where
     by : (e : Event) → SendsOwn n (stage_after x e)
     by Finishes = closing-elim (SendsOwn n) x 0 (λ _. tt) (λ _. tt)
@@ -140,7 +140,7 @@ module _ {K : Type 0} (rules : Rules K) (lawful : Lawful rules)
       obeyed : Obeys (rules.shape x.component) (rules.uses x.component) x.held work.outcome
       obeyed =
           let was = fit.valid.each p x work.kept.there in
-          let below : x.held.made < 4294967296 = omega (arith, was.made, was.turns) in
+          let below : x.held.made < 4294967296 = omega (arith, was.made, was.turns, was.limit) in
           let sound = sound-hands s p x work.kept.there was.maker below fit.valid.one_place in
           let now : rules.ready x.component x.held work.kept.answer = subst (ReadyAt (rules.ready x.component) x.held) work.kept.told was.is_ready sound in
           lawful.obeys x.component x.held work.kept.answer work.outcome now work.kept.comes

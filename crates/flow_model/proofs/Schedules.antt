@@ -1,5 +1,4 @@
 -- What holds after every schedule, open or closed.
-use Rattle.flow_limits.specs.declared.TheConstants.{TURN_LIMIT}
 use Rattle.std.proofs.Common.{◌≡◌, ℕ, ◌+◌, ◌<◌, ◌≤◌, List, [], ◌∷◌, length, Some, true, false, refl, ap, arith, ◌∙◌, sym, Bool, cond, ◌==◌, slice_get, slice_set, subst, length-set, ◌⊎◌, inl, inr}
 use Rattle.std.proofs.lemmas.Bool.Decides.{nat_tests}
 use Rattle.flow_packet.specs.Held.{Held}
@@ -29,9 +28,9 @@ use Rattle.flow_model.proofs.Changes.{get-one}
 less_or : (n m : ℕ) → n == m ≡ false → n ≤ m → n < m
 less_or n m t most = grind (arith, nat_tests)
 
-limit-cond : (n : ℕ) (b : Bool) (stage : Stage) → (n == TURN_LIMIT) ≡ b → n ≤ TURN_LIMIT → least_left stage ≤ 1 → n + least_left (cond b (stages.Failed fails.TurnLimit) stage) ≤ TURN_LIMIT
-limit-cond n true stage t most one = omega arith
-limit-cond n false stage t most one = let below : n < TURN_LIMIT = less_or n TURN_LIMIT t most in omega (arith, below, one)
+limit-cond : (limit n : ℕ) (b : Bool) (stage : Stage) → (n == limit) ≡ b → n ≤ limit → least_left stage ≤ 1 → n + least_left (cond b (stages.Failed fails.TurnLimit) stage) ≤ limit
+limit-cond limit n true stage t most one = omega (arith, most)
+limit-cond limit n false stage t most one = let below : n < limit = less_or n limit t most in omega (arith, below, one)
 
 -- A stage that isn't over has at most one turn reserved.
 pub least_left-most : (stage : Stage) → least_left stage ≤ 1
@@ -44,9 +43,9 @@ owed-most stages.Ended = omega arith
 owed-most stage = omega arith
 
 -- a turn that is made is one of those that a process may make
-pub limited-left : (n : ℕ) (stage : Stage) → n ≤ TURN_LIMIT → n + least_left (limited n stage) ≤ TURN_LIMIT
-limited-left n stages.Ended most = omega arith
-limited-left n stage most = limit-cond n (n == TURN_LIMIT) stage refl most (least_left-most stage)
+pub limited-left : (limit n : ℕ) (stage : Stage) → n ≤ limit → n + least_left (limited limit n stage) ≤ limit
+limited-left limit n stages.Ended most = omega (arith, most)
+limited-left limit n stage most = limit-cond limit n (n == limit) stage refl most (least_left-most stage)
 
 -- a process that has a turn isn't over, and owes no work
 pub left-event : {K : Type 0} (channels : List Look) (x : Process K) (n : ℕ) (stage : Stage) (e : Event) → stage_event channels x n stage ≡ Some e → (least_left stage ≡ 1) × (owed stage ≡ 0)
@@ -76,8 +75,8 @@ depths-after : {K : Type 0} (x : Process K) (e : Event) → length (process_afte
 depths-after x (Sends port c packet) = length-set x.depths port _
 depths-after x e = refl
 
-left-after : {K : Type 0} (x : Process K) (e : Event) → x.turns + 1 ≤ TURN_LIMIT → (process_after x e).turns + least_left (process_after x e).stage ≤ TURN_LIMIT
-left-after x e most = limited-left (x.turns + 1) (stage_after x e) most
+left-after : {K : Type 0} (x : Process K) (e : Event) → x.turns + 1 ≤ x.limit → (process_after x e).turns + least_left (process_after x e).stage ≤ x.limit
+left-after x e most = limited-left x.limit (x.turns + 1) (stage_after x e) most
 
 -- the capacities stay
 capacity-after : (p : ℕ) (change : Change) (channel : Channel) → (channel_after p change channel).capacity ≡ channel.capacity
@@ -112,12 +111,13 @@ Valid-turn {K} rules s p event s' turn good =
     let there = turn.kept.there in
     let was = good.each p x there in
     let left = left-event (looks s.kept.channels) x turn.kept.level x.stage event turn.kept.happens in
-    let below : x.held.made < 4294967296 = omega (arith, was.made, was.turns) in
+    let below : x.held.made < 4294967296 = omega (arith, was.made, was.turns, was.limit) in
     let place : OnePlaceCounted s' = OnePlace-turn s p event s' turn was.maker below good.one_place in
     let new : GoodProcess rules p y = record {
       maker = maker-after x event ∙ was.maker;
       made = omega (arith, made-after x event, turns-after x event, owed-most y.stage, was.made, left.1);
       turns = left-after x event (omega (arith, was.turns, left.0));
+      limit = was.limit;
       depths = depths-after x event ∙ was.depths ∙ ap length (sym (outputs-after x event));
       nested = nested-event s.kept.channels x turn.kept.level event turn.kept.happens;
       is_ready = subst (λ (component : K). ReadyAt (rules.ready component) y.held y.stage) (sym (component-after x event)) (ready-event (rules.ready x.component) s.kept.channels x turn.kept.level event good.capacities turn.kept.happens was.is_ready);
@@ -147,6 +147,10 @@ turns-worked : {K : Type 0} (x : Process K) (outcome : Outcome K) → (worked x 
 turns-worked x (Wishes component held wish) = refl
 turns-worked x (Fails component held cause) = refl
 
+limit-worked : {K : Type 0} (x : Process K) (outcome : Outcome K) → (worked x outcome).limit ≡ x.limit
+limit-worked x (Wishes component held wish) = refl
+limit-worked x (Fails component held cause) = refl
+
 -- along every schedule, of components that keep the laws
 module _ {K : Type 0} (rules : Rules K) (lawful : Lawful rules) where
   -- a work keeps a state valid
@@ -159,7 +163,7 @@ module _ {K : Type 0} (rules : Rules K) (lawful : Lawful rules) where
       let told = work.kept.told in
       let owes : owed x.stage ≡ 1 = ap owed told in
       let left : least_left x.stage ≡ 1 = ap least_left told in
-      let below : x.held.made < 4294967296 = omega (arith, was.made, was.turns) in
+      let below : x.held.made < 4294967296 = omega (arith, was.made, was.turns, was.limit) in
       let sound = sound-hands s p x there was.maker below good.one_place in
       let now : rules.ready x.component x.held work.kept.answer = subst (ReadyAt (rules.ready x.component) x.held) told was.is_ready sound in
       let works = comes x.held (held_after work.outcome) (comes-of (rules.shape x.component) (rules.uses x.component) x.held work.outcome (lawful.obeys x.component x.held work.kept.answer work.outcome now work.kept.comes)) in
@@ -169,7 +173,8 @@ module _ {K : Type 0} (rules : Rules K) (lawful : Lawful rules) where
       let new : GoodProcess rules p y = record {
         maker = ap (λ (h : Held). h.maker) held ∙ few.0 ∙ was.maker;
         made = omega (arith, ap (λ (h : Held). h.made) held, few.1, was.made, owes, turns-worked x work.outcome, owed-worked x work.outcome);
-        turns = omega (arith, was.turns, left, turns-worked x work.outcome, least_left-most y.stage);
+        turns = omega (arith, was.turns, left, turns-worked x work.outcome, limit-worked x work.outcome, least_left-most y.stage);
+        limit = omega (arith, was.limit, limit-worked x work.outcome);
         depths = ap length (depths-worked x work.outcome) ∙ was.depths ∙ ap length (sym (outputs-worked x work.outcome));
         nested = nested-worked x work.outcome;
         is_ready = ready-worked rules x work.outcome (lawful.stays_ready x.component x.held work.kept.answer work.outcome now work.kept.comes);

@@ -189,7 +189,7 @@ module _ {K : Type 0} (rules : Rules K) (lawful : Lawful rules) where
   turn-left s p e s' fit exact =
       let turn = exact.turn.kept in
       let x = turn.before in
-      omega (arith, (fit.valid.each p x turn.there).turns, least-left-on (looks s.kept.channels) x turn.level x.stage e turn.happens)
+      omega (arith, (fit.valid.each p x turn.there).turns, (fit.valid.each p x turn.there).limit, least-left-on (looks s.kept.channels) x turn.level x.stage e turn.happens)
 
   turns-at : (s : State K) (p : ℕ) (e : Event) (s' : State K) (exact : ExactTurn rules s p e s') (z : Process K) → slice_get s'.kept.processes p ≡ Some z → z.turns ≡ exact.turn.kept.before.turns + 1
   turns-at s p e s' exact z is = by exact.settles
@@ -240,7 +240,7 @@ module _ {K : Type 0} (rules : Rules K) (lawful : Lawful rules) where
 
   -- no more turns are made than all processes may make
   turns-most : (s : State K) → Fit rules s → all_turns s ≤ length s.kept.processes * TURN_LIMIT
-  turns-most s fit = sum-most (λ (x : Process K). x.turns) s.kept.processes (λ p x there. omega (arith, (fit.valid.each p x there).turns))
+  turns-most s fit = sum-most (λ (x : Process K). x.turns) s.kept.processes (λ p x there. omega (arith, (fit.valid.each p x there).turns, (fit.valid.each p x there).limit))
 
   -- The passes of a round robin from s.
   record SomePasses (s : State K) : Type 0 where

@@ -1,5 +1,5 @@
 -- Where turns and works lead: one eliminator for each, in which the limit stands.
-use Rattle.flow_limits.specs.declared.TheConstants.{HANDS_LIMIT, TURN_LIMIT}
+use Rattle.flow_limits.specs.declared.TheConstants.{HANDS_LIMIT}
 use Rattle.std.proofs.Common.{◌≡◌, ℕ, ◌+◌, ◌<◌, ◌≤◌, ◌⊎◌, inl, inr, List, [], ◌∷◌, length, Option, Some, None, Bool, true, false, refl, sym, ap, ◌∙◌, subst, cond, arith, nat_lt, ◌==◌, slice_index}
 use Rattle.std.proofs.lemmas.Bool.Decides.{nat_tests}
 use Rattle.flow_packet.specs.Tree.{Tree, kind_of}
@@ -23,9 +23,9 @@ use Rattle.flow_model.proofs.Inverse.{ClosesAt, explains}
 use Rattle.flow_model.proofs.Counts.{packet_at-id}
 
 -- What holds where the turn limit is met and where it isn't holds after it was looked at.
-pub limited-elim : (P : Stage → Type 0) (n : ℕ) (stage : Stage) → P (stages.Failed fails.TurnLimit) → P stage → P (limited n stage)
-limited-elim P n stages.Ended failed is = is
-limited-elim P n stage failed is = by (n == TURN_LIMIT) failed is
+pub limited-elim : (P : Stage → Type 0) (limit n : ℕ) (stage : Stage) → P (stages.Failed fails.TurnLimit) → P stage → P (limited limit n stage)
+limited-elim P limit n stages.Ended failed is = is
+limited-elim P limit n stage failed is = by (n == limit) failed is
   where
     by : (b : Bool) → P (stages.Failed fails.TurnLimit) → P stage → P (cond b (stages.Failed fails.TurnLimit) stage)
     by true failed is = failed
@@ -93,7 +93,7 @@ pub after-turn : {K : Type 0} (channels : List Channel) (x : Process K) (n : ℕ
     → ((h : Happening) → happening x e ≡ Some h → P e (h ∷ []) (stages.Told (answer_of h))) → (event_of channels x n ≡ Some Sleeps → P Sleeps [] stages.Idle) → ((c : ℕ) (packet : Tree) → event_of channels x n ≡ Some (Signals c packet) → P (Signals c packet) [] stages.Idle)
     → (event_of channels x n ≡ Some Finishes → P Finishes [] (closing x 0)) → ((output c : ℕ) (at : ClosesAt x output c) → P (Closes output c) [] (closing x (at.i + 1))) → P e (heard x e) (process_after x e).stage
 after-turn channels x n e is P failed told sleeps signals finishes closes =
-    limited-elim (P e (heard x e)) (x.turns + 1) (stage_after x e) failed (stage-elim channels x n e is P told sleeps signals finishes closes)
+    limited-elim (P e (heard x e)) x.limit (x.turns + 1) (stage_after x e) failed (stage-elim channels x n e is P told sleeps signals finishes closes)
 
 -- The same of stages alone, where it doesn't matter which turn it was.
 pub after-stage : {K : Type 0} (channels : List Channel) (x : Process K) (n : ℕ) (e : Event) → event_of channels x n ≡ Some e → (P : Stage → Type 0) → P (stages.Failed fails.TurnLimit)

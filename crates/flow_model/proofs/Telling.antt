@@ -13,7 +13,7 @@ use Rattle.flow_component.specs.Runs.{fresh, Wakes, starts}
 use Rattle.flow_model.specs.declared.Stage.{Stage}
 use Rattle.flow_model.specs.declared.Stage.TheVariants as stages
 use Rattle.flow_model.specs.States.{Input, From, Process, Channel, Kept, State, got_at, entry_of}
-use Rattle.flow_model.specs.Stages.{HasBegunToClose, least_left}
+use Rattle.flow_model.specs.Stages.{HasBegunToClose}
 use Rattle.flow_model.specs.Events.{Event, Gets, Signals, event_of, is_fresh, is_connected}
 use Rattle.flow_model.specs.Turns.{process_after, channels_after, heard, past_after, Turn}
 use Rattle.flow_model.specs.Works.{judged, worked, Work}
@@ -22,7 +22,7 @@ use Rattle.flow_model.specs.Plans.{process_at_start, processes_at_start, start_o
 use Rattle.flow_plan.specs.Network.{Network as Plan}
 use Rattle.flow_plan.specs.declared.plan.Process.{Process as PlanProcess}
 use Rattle.flow_model.specs.Order.{connection_of, input_of, signal_of, packets_at, InOrder}
-use Rattle.flow_model.specs.Valid.{Valid, OneReceiver, SignalsApart, SendersOpen, ReadyAt}
+use Rattle.flow_model.specs.Valid.{Valid, GoodProcess, OneReceiver, SignalsApart, SendersOpen, ReadyAt}
 use Rattle.flow_model.specs.Runs.{Follows, IsConnectedAt, HasRun, EndedGotAll}
 use Rattle.flow_model.proofs.Lists.{slice_get-set_same, slice_get-set_other, same_or_not}
 use Rattle.flow_model.proofs.Inverse.{explains}
@@ -251,9 +251,9 @@ module _ {K : Type 0} (rules : Rules K) (lawful : Lawful rules) (components : Li
   pub AllTell-leads : (s : State K) (journal : Journal) (s' : State K) → Valid rules s → AllTell rules components s → Leads rules s journal s' → AllTell rules components s'
   AllTell-leads s journal s' valid all leads = AllTell-leads_by s journal.turns journal.seen s' valid all leads
 
--- A process with a turn left has made fewer than the limit.
-pub turns-most : {K : Type 0} (x : Process K) → x.turns + least_left x.stage ≤ TURN_LIMIT → x.turns ≤ TURN_LIMIT
-turns-most x most = omega (arith, most)
+-- A process has made no more turns than it may, and may make no more than the limit.
+pub turns-most : {K : Type 0} (rules : Rules K) (p : ℕ) (x : Process K) → GoodProcess rules p x → x.turns ≤ TURN_LIMIT
+turns-most rules p x good = omega (arith, good.turns, good.limit)
 
 -- what is promised of it
 pub Tells-run : {K : Type 0} (rules : Rules K) (components : List K) (channels : List Channel) (p : ℕ) (told : List Happening) (x : Process K) (component : K)

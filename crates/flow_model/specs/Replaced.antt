@@ -16,6 +16,7 @@ with_component x component = record {
   fresh = x.fresh;
   depths = x.depths;
   turns = x.turns;
+  limit = x.limit;
   inputs = x.inputs;
   outputs = x.outputs;
   signal = x.signal;

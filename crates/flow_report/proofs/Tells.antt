@@ -67,8 +67,8 @@ reports-tell {K} rules finds plan net s fit few reached =
     let channels : net.channels ≡ channels_from s.past.put 0 cs = ap (λ v. v.channels) stands in
     let procs : processes_of bodies ≡ xs = processes-shown s.past.dropped 0 bodies xs shown in
     let looked : looks_of net.channels ≡ looks cs = ap (λ (l : List ChannelShown). map look_shown l) channels ∙ looks-shown s.past.put 0 cs in
-    let turns_few : sum_by (λ (x : Process K). x.turns) xs ≤ n * 8388608 = sum-below (λ (x : Process K). x.turns) 8388608 xs (λ k x there. (let good = fit.valid.each k x there in omega (arith, good.turns))) in
-    let made_few : (k : ℕ) (x : Process K) → slice_get xs k ≡ Some x → x.held.made ≤ 16777216 = λ k x there. (let good = fit.valid.each k x there in omega (arith, good.turns, good.made)) in
+    let turns_few : sum_by (λ (x : Process K). x.turns) xs ≤ n * 8388608 = sum-below (λ (x : Process K). x.turns) 8388608 xs (λ k x there. (let good = fit.valid.each k x there in omega (arith, good.turns, good.limit))) in
+    let made_few : (k : ℕ) (x : Process K) → slice_get xs k ≡ Some x → x.held.made ≤ 16777216 = λ k x there. (let good = fit.valid.each k x there in omega (arith, good.turns, good.limit, good.made)) in
     let made_sum : sum_by (λ (x : Process K). x.held.made) xs ≤ n * 16777216 = sum-below (λ (x : Process K). x.held.made) 16777216 xs made_few in
     let adds : TotalsAddUp s = totals-add_up s (λ k x there. (let f = made_few k x there in omega (arith, f))) fit.valid.one_place in
     let all_dropped : dropped_from s.past.dropped 0 n ≡ length (ids_dropped s.past.dropped n) = dropped-all s.past.dropped n in

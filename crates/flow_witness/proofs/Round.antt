@@ -78,7 +78,7 @@ turns_only turns = record { turns = turns; seen = [] }
 
 abbrev process_of : Option (Process Std) → Process Std
 process_of (Some x) = x
-process_of None = record { stage = stages.Idle; has_run = false; component = components.Passthru passing; held = record { maker = 0; made = 0; packets = [] }; fresh = []; depths = []; turns = 0; inputs = []; outputs = []; signal = None; signalled = false }
+process_of None = record { stage = stages.Idle; has_run = false; component = components.Passthru passing; held = record { maker = 0; made = 0; packets = [] }; fresh = []; depths = []; turns = 0; limit = 0; inputs = []; outputs = []; signal = None; signalled = false }
 
 -- A process of a state.
 abbrev pub at : State Std → ℕ → Process Std

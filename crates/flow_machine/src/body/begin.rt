@@ -11,6 +11,7 @@ use crate::answers::Thought;
 use crate::outlets::connection_in;
 use crate::start::{fits, inlets_of, places};
 use flow_component::Component;
+use flow_limits::TURN_LIMIT;
 use flow_model::Stage;
 use flow_packet::Hands;
 use flow_plan::Plan;
@@ -55,6 +56,7 @@ impl<K: Component> Body<K> {
             signalled: false,
             depths,
             leaving: None,
+            limit: TURN_LIMIT as u64,
             stamps: Vec::new(alloc),
             levels: Vec::new(alloc),
             copy: None,

@@ -17,7 +17,7 @@ use crate::answers::Effect;
 use crate::inlet::{Inlet, freshen};
 use crate::outlets::outlet_count;
 use flow_component::{Answer, Component, Fail, Port, Wish};
-use flow_limits::{HANDS_LIMIT, TURN_LIMIT};
+use flow_limits::HANDS_LIMIT;
 use flow_model::Stage;
 use flow_packet::{Hands, Kind, Packet, PacketId};
 
@@ -32,13 +32,13 @@ fn fail_by_limit(stage: &mut Stage)
 
 /// It comes to a stage by a turn. A process that made its last turn fails by it, unless it has ended.
 #[inline(always)]
-fn enter(stage: &mut Stage, turns: usize, next: Stage)
-    ensures { stage.new ≡ limited turns next }
+fn enter(stage: &mut Stage, limit: u64, turns: u64, next: Stage)
+    ensures { stage.new ≡ limited limit turns next }
 {
     match next {
         Stage::Ended => *stage = next,
         _ => {
-            if turns == TURN_LIMIT {
+            if turns == limit {
                 fail_by_limit(stage);
             } else {
                 *stage = next;
@@ -173,7 +173,8 @@ impl<K: Component> Body<K> {
         add_stamp(&mut self.stamps, stamp);
         enter(
             &mut self.stage,
-            self.stamps.len(),
+            self.limit,
+            self.stamps.len() as u64,
             Stage::Told(Answer::Start),
         );
     }
@@ -185,7 +186,7 @@ impl<K: Component> Body<K> {
     {
         add_stamp(&mut self.stamps, stamp);
         let stage = closing_stage(&self.outputs, 0);
-        enter(&mut self.stage, self.stamps.len(), stage);
+        enter(&mut self.stage, self.limit, self.stamps.len() as u64, stage);
     }
 
     #[inline(always)]
@@ -198,7 +199,8 @@ impl<K: Component> Body<K> {
         add_stamp(&mut self.stamps, stamp);
         enter(
             &mut self.stage,
-            self.stamps.len(),
+            self.limit,
+            self.stamps.len() as u64,
             Stage::Told(Answer::Got(id)),
         );
     }
@@ -209,7 +211,7 @@ impl<K: Component> Body<K> {
         ensures { TakesTurn self.old Effect.End stamp self.new }
     {
         add_stamp(&mut self.stamps, stamp);
-        enter(&mut self.stage, self.stamps.len(), Stage::Told(Answer::End));
+        enter(&mut self.stage, self.limit, self.stamps.len() as u64, Stage::Told(Answer::End));
     }
 
     #[cold]
@@ -227,13 +229,14 @@ impl<K: Component> Body<K> {
                 add_stamp(&mut self.stamps, stamp);
                 enter(
                     &mut self.stage,
-                    self.stamps.len(),
+                    self.limit,
+            self.stamps.len() as u64,
                     Stage::Told(Answer::Got(id)),
                 );
             }
             None => {
                 add_stamp(&mut self.stamps, stamp);
-                enter(&mut self.stage, self.stamps.len(), Stage::Told(Answer::End));
+                enter(&mut self.stage, self.limit, self.stamps.len() as u64, Stage::Told(Answer::End));
             }
         }
     }
@@ -257,7 +260,8 @@ impl<K: Component> Body<K> {
         add_stamp(&mut self.stamps, stamp);
         enter(
             &mut self.stage,
-            self.stamps.len(),
+            self.limit,
+            self.stamps.len() as u64,
             Stage::Told(Answer::Sent),
         );
         self.hands.take(id)
@@ -274,7 +278,8 @@ impl<K: Component> Body<K> {
         add_stamp(&mut self.stamps, stamp);
         enter(
             &mut self.stage,
-            self.stamps.len(),
+            self.limit,
+            self.stamps.len() as u64,
             Stage::Told(Answer::Sent),
         );
     }
@@ -290,7 +295,8 @@ impl<K: Component> Body<K> {
         add_stamp(&mut self.stamps, stamp);
         enter(
             &mut self.stage,
-            self.stamps.len(),
+            self.limit,
+            self.stamps.len() as u64,
             Stage::Told(Answer::Level(level)),
         );
     }
@@ -304,7 +310,7 @@ impl<K: Component> Body<K> {
     {
         self.has_run = true;
         add_stamp(&mut self.stamps, stamp);
-        enter(&mut self.stage, self.stamps.len(), Stage::Idle);
+        enter(&mut self.stage, self.limit, self.stamps.len() as u64, Stage::Idle);
     }
 
     #[cold]
@@ -317,7 +323,7 @@ impl<K: Component> Body<K> {
         self.hands.swallow(packet);
         self.signalled = true;
         add_stamp(&mut self.stamps, stamp);
-        enter(&mut self.stage, self.stamps.len(), Stage::Idle);
+        enter(&mut self.stage, self.limit, self.stamps.len() as u64, Stage::Idle);
     }
 
     #[cold]
@@ -333,6 +339,6 @@ impl<K: Component> Body<K> {
             unreachable!()
         };
         let next = closing_stage(&self.outputs, place + 1);
-        enter(&mut self.stage, self.stamps.len(), next);
+        enter(&mut self.stage, self.limit, self.stamps.len() as u64, next);
     }
 }

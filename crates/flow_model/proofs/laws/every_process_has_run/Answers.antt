@@ -8,7 +8,7 @@ pub returns-clause-schedules : goal.returns-clause-schedules
 returns-clause-schedules g c = λ plan components journal s well leads p component x at is.
     (let start = Valid-start g.K.Component.rules plan components well in
     let valid = Valid-leads g.K.Component.rules g.met.K.Component.lawful (start_of plan components) journal s start leads in
-    Tells-run g.K.Component.rules components s.kept.channels p (s.past.told p) x component at (turns-most x (valid.each p x is).turns)
+    Tells-run g.K.Component.rules components s.kept.channels p (s.past.told p) x component at (turns-most g.K.Component.rules p x (valid.each p x is))
     (AllTell-leads g.K.Component.rules g.met.K.Component.lawful components (start_of plan components) journal s
     start (AllTell-start g.K.Component.rules plan components) leads p x is))
 
@@ -16,7 +16,7 @@ pub returns-clause-while_open : goal.returns-clause-while_open
 returns-clause-while_open g c = λ plan components steps s well reaches p component x at is.
     (let start = Valid-start g.K.Component.rules plan components well in
     let valid = Valid-reaches g.K.Component.rules g.met.K.Component.lawful (start_of plan components) steps s start reaches in
-    Tells-run g.K.Component.rules components s.kept.channels p (s.past.told p) x component at (turns-most x (valid.each p x is).turns)
+    Tells-run g.K.Component.rules components s.kept.channels p (s.past.told p) x component at (turns-most g.K.Component.rules p x (valid.each p x is))
     (AllTell-reaches g.K.Component.rules g.met.K.Component.lawful components (start_of plan components) steps s
     start (AllTell-start g.K.Component.rules plan components) reaches p x is))
 
