@@ -1,5 +1,6 @@
 //! What holds of every schedule: each law is the contract of a function that does nothing.
 ghost use Rattle.flow_model.specs.Laws.{KeepsPackets, KeepsOrder, KeepsPrefixes, KeepsOpen, KeepsFew, HasOneVerdict, KeepsOpenSenders, LeavesClosed, KeepsTotals, RoundRobinLeads, IsOneRoundRobin, HasRoundRobin, HasOneRoundRobin, LeadsToOneState, HasPrefixes, TurnsAreSchedule, OpenTurnsAreSchedule, StartsFit, TurnsKeepFit, WorksKeepFit};
+ghost use Rattle.flow_model.specs.Steps.{StepsAreRobin};
 ghost use Rattle.flow_model.specs.Wires.{KeepsWires};
 ghost use Rattle.flow_model.specs.Rising.{FinishedLeadsOn};
 ghost use Rattle.flow_model.specs.Woken.{KeepsWoken};
@@ -58,6 +59,12 @@ pub fn there_is_one_round_robin<K: Component>()
 pub fn every_start_has_a_round_robin<K: Component>()
     ensures some { HasRoundRobin K.rules }
     ensures one { HasOneRoundRobin K.rules }
+{}
+
+/// Where no work is pending, steps of one thread from the beginning of a pass to the end of one without a turn are the round robin,
+/// wherever the thread rested between them: also between a turn and its work.
+pub fn steps_are_a_round_robin<K: Component>()
+    ensures { StepsAreRobin K.rules }
 {}
 
 /// A schedule has a prefix of each length.

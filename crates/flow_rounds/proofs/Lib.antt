@@ -2,5 +2,5 @@ pub mod Fronts
 pub mod Mimicry
 pub mod Tending
 pub mod Leaving
-pub mod Steps
 pub mod Rounds
+pub mod Joining

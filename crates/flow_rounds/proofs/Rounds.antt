@@ -12,10 +12,11 @@ use Rattle.flow_played.proofs.Places.{replaced-length, still-replaced}
 use Rattle.flow_played.proofs.Robins.{exact-same}
 use Rattle.flow_pieces.specs.Fed.{Fed, fed_rules}
 use Rattle.flow_rounds.specs.Whole.{HaveFiles, whole_of, IsFedFrom}
-use Rattle.flow_rounds.specs.Steps.{Standing, first_standing, last_standing, Turned, Worked, Passed, Again, StepsLead, turns_from}
+use Rattle.flow_model.specs.declared.Standing.{Standing}
+use Rattle.flow_model.specs.Steps.{first_standing, last_standing, Turned, Worked, Passed, Again, StepsLead, turns_from}
 use Rattle.flow_rounds.specs.FedSteps.{FedStep, Did, Tended, FedStepsLead, steps_of}
 use Rattle.flow_rounds.proofs.Tending.{fed-is-whole, tends-same, tends-back, work-whole, thought-whole, closed-whole}
-use Rattle.flow_rounds.proofs.Steps.{steps-are-robin}
+use Rattle.flow_model.proofs.Steps.{steps-are-robin}
 
 module _ {K : Type 0} (rules : Rules K) (reading : List (List ℕ) → K) (writing : List ℕ → K) (have : HaveFiles rules reading writing) (files : ℕ → List ℕ) where
   abbrev whole : ℕ → Fed K → K

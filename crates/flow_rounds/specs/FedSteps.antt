@@ -1,18 +1,19 @@
 -- Steps of one thread, and between them processes that are tended. (This project's own.)
-use Rattle.std.specs.Prelude.{◌≡◌, ℕ, ◌+◌, ◌<◌, true, List, [], ◌∷◌, length}
+use Rattle.std.specs.Prelude.{◌≡◌, ℕ, ◌+◌, ◌<◌, true, List, [], ◌∷◌, ◌++◌, length}
 use Rattle.flow_component.specs.Laws.{Rules}
 use Rattle.flow_model.specs.States.{State}
 use Rattle.flow_model.specs.Events.{Event, seen_by}
 use Rattle.flow_model.specs.Turns.{Turn}
 use Rattle.flow_model.specs.Works.{Work}
-use Rattle.flow_model.specs.Schedules.{IsThought, IsClosed}
+use Rattle.flow_model.specs.Schedules.{IsThought, IsClosed, then_turns}
 use Rattle.flow_model.specs.Robin.{IsExact, RoundRobin}
 use Rattle.flow_model.specs.Verdicts.{HasNoTurn}
 use Rattle.flow_model.specs.Replaced.{OfEach, replaced}
 use Rattle.flow_pieces.specs.Fed.{Fed, fed_rules}
 use Rattle.flow_rounds.specs.Whole.{HaveFiles, whole_of, IsFedFrom}
 use Rattle.flow_rounds.specs.Rounds.{Tends}
-use Rattle.flow_rounds.specs.Steps.{Standing, first_standing, last_standing, RobinStep, Turned, Worked, Passed, Again, turns_from}
+use Rattle.flow_model.specs.declared.Standing.{Standing}
+use Rattle.flow_model.specs.Steps.{first_standing, last_standing, RobinStep, Turned, Worked, Passed, Again, StepsLead, turns_from}
 
 -- A step of the thread, or a process is tended while it rests.
 pub data FedStep : Type 0 where
@@ -43,3 +44,17 @@ RoundsAreRobin {K} rules =
     → IsClosed s
     → FedStepsLead rules s first_standing steps s' (last_standing (length s'.kept.processes))
     → RoundRobin rules (replaced (whole_of reading writing files) s) (turns_from 0 (steps_of steps)) (replaced (whole_of reading writing files) s')
+
+-- What the thread does between two rests are such steps.
+abbrev pub StepsAreFed : {K : Type 0} → Rules K → Type 0
+StepsAreFed {K} rules =
+    (steps : List RobinStep) (s : State (Fed K)) (c : Standing) (s' : State (Fed K)) (c' : Standing) → StepsLead (fed_rules rules) s c steps s' c'
+    → (fed : List FedStep) × (steps_of fed ≡ steps) × FedStepsLead rules s c fed s' c'
+
+-- Steps after a rest go on where those before it stood, and their turns follow one another.
+abbrev pub RoundsJoin : {K : Type 0} → Rules K → Type 0
+RoundsJoin {K} rules =
+    (a b : List FedStep) (s : State (Fed K)) (c : Standing) (mid : State (Fed K)) (d : Standing) (s' : State (Fed K)) (c' : Standing)
+    → FedStepsLead rules s c a mid d
+    → FedStepsLead rules mid d b s' c'
+    → FedStepsLead rules s c (a ++ b) s' c' × (turns_from c.at (steps_of (a ++ b)) ≡ then_turns (turns_from c.at (steps_of a)) (turns_from d.at (steps_of b)))

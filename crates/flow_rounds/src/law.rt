@@ -2,8 +2,7 @@
 ghost use Rattle.flow_rounds.specs.Whole.{ReadsAsWhole, WritesAsWhole, FedIsWhole};
 ghost use Rattle.flow_rounds.specs.Rounds.{RoundsReachWhole, RoundsAreOneSchedule};
 ghost use Rattle.flow_rounds.specs.Left.{StepsLeaveFiles};
-ghost use Rattle.flow_rounds.specs.Steps.{StepsAreRobin};
-ghost use Rattle.flow_rounds.specs.FedSteps.{RoundsAreRobin};
+ghost use Rattle.flow_rounds.specs.FedSteps.{RoundsAreRobin, StepsAreFed, RoundsJoin};
 ghost use Rattle.flow_rounds.specs.Standard.{StandardHaveFiles};
 
 use flow_component::Component;
@@ -37,17 +36,18 @@ pub fn turns_leave_the_files<K: Component>()
     ensures { StepsLeaveFiles K.rules }
 {}
 
-/// Where no work is pending, steps of one thread from the beginning of a pass to the end of one without a turn are the
-/// round robin, wherever the thread rested between them: also between a turn and its work.
-pub fn steps_are_a_round_robin<K: Component>()
-    ensures { StepsAreRobin K.rules }
-{}
-
-/// Such steps over a network whose files come and go piece by piece, with processes tended between them, are the round
-/// robin of the network of the whole files, whatever these are of which the readers were given the fronts: so the turns
-/// don't depend on the pieces.
+/// Steps of one thread over a network whose files come and go piece by piece, from the beginning of a pass to the end of
+/// one without a turn, with processes tended between them, are the round robin of the network of the whole files,
+/// whatever these are of which the readers were given the fronts: so the turns don't depend on the pieces.
 pub fn rounds_of_one_thread_are_its_round_robin<K: Component>()
     ensures { RoundsAreRobin K.rules }
+{}
+
+/// What one thread does between two rests are such steps, and those after a rest go on where the thread stood: the turns
+/// of all rounds, one after another, are the turns of all steps.
+pub fn rounds_follow_one_another<K: Component>()
+    ensures steps { StepsAreFed K.rules }
+    ensures joins { RoundsJoin K.rules }
 {}
 
 /// Among the standard components there are a reader of any lines and a writer of any bytes.

@@ -3,6 +3,7 @@ use Rattle.std.proofs.Common.{◌≡◌, ◌≢◌, ◌⊎◌, inl, inr, ℕ, �
 use Rattle.std.proofs.lemmas.List.{append-nil}
 use Rattle.flow_component.specs.Laws.{Rules}
 use Rattle.flow_model.specs.declared.Stage.{Stage}
+use Rattle.flow_model.specs.declared.Standing.{Standing}
 use Rattle.flow_model.specs.declared.Stage.TheVariants as stages
 use Rattle.flow_model.specs.Stages.{IsThoughtStage}
 use Rattle.flow_model.specs.States.{Process, State}
@@ -14,7 +15,7 @@ use Rattle.flow_model.specs.Works.{Work, worked}
 use Rattle.flow_model.specs.Schedules.{IsThought, IsClosed, Settles, Journal, no_turns, then_turns}
 use Rattle.flow_model.specs.Robin.{IsExact, ExactTurn, TurnsOf, PassBelow, Pass, Passes, joined, RoundRobin}
 use Rattle.flow_model.specs.Verdicts.{HasNoTurn}
-use Rattle.flow_rounds.specs.Steps.{Standing, first_standing, last_standing, RobinStep, Turned, Worked, Passed, Again, StepsLead, turns_from, StepsAreRobin}
+use Rattle.flow_model.specs.Steps.{first_standing, last_standing, RobinStep, Turned, Worked, Passed, Again, StepsLead, turns_from, StepsAreRobin}
 
 -- the first part of a join is empty where the whole is
 none-first : (xs ys : List ℕ) → xs ++ ys ≡ [] → xs ≡ []

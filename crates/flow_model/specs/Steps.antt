@@ -1,6 +1,7 @@
 -- The round robin of one thread, step by step, so that it can rest between any two steps and go on. (This project's own.)
-use Rattle.std.specs.Prelude.{◌≡◌, ℕ, ◌+◌, ◌<◌, Bool, true, false, List, [], ◌∷◌, length}
+use Rattle.std.specs.Prelude.{◌≡◌, ℕ, ◌+◌, ◌<◌, true, false, List, [], ◌∷◌, length}
 use Rattle.flow_component.specs.Laws.{Rules}
+use Rattle.flow_model.specs.declared.Standing.{Standing}
 use Rattle.flow_model.specs.States.{State}
 use Rattle.flow_model.specs.Events.{Event, seen_by}
 use Rattle.flow_model.specs.Turns.{Turn}
@@ -8,11 +9,6 @@ use Rattle.flow_model.specs.Works.{Work}
 use Rattle.flow_model.specs.Schedules.{IsThought, IsClosed, Journal, no_turns, then_turns}
 use Rattle.flow_model.specs.Robin.{IsExact, RoundRobin}
 use Rattle.flow_model.specs.Verdicts.{HasNoTurn}
-
--- Where the thread stands: at which process, and whether this pass had a turn.
-pub record Standing : Type 0 where
-  pub at : ℕ
-  pub moved : Bool
 
 -- At the beginning of a pass.
 abbrev pub first_standing : Standing
