@@ -26,3 +26,4 @@ pub mod SoloLemmas
 pub mod Reaching
 mod StartLemmas
 pub mod Told
+pub mod StepLemmas

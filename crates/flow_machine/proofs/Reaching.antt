@@ -11,14 +11,14 @@ use Rattle.flow_model.specs.Fit.{Fit}
 use Rattle.flow_model.proofs.Lists.{slice_get-set_same, slice_get-set_other, same_or_not}
 use Rattle.flow_machine.specs.Values.{BodyValue, NetValue, shown_net}
 use Rattle.flow_machine.specs.declared.answers.Thought.{Thought}
-use Rattle.flow_machine.specs.Nets.{NetTurn, level_of}
+use Rattle.flow_machine.specs.Nets.{NetTurn}
 use Rattle.flow_machine.specs.NetSteps.{ThinksNet}
 use Rattle.flow_machine.specs.Thoughts.{SameBody, WorkedBody, KeepsTurns}
 use Rattle.flow_machine.specs.Logs.{journal_of, Remembers, stamps_of, levels_of, turns_made}
-use Rattle.flow_machine.specs.Solo.{MakesTurn, reached, ReachesNet}
+use Rattle.flow_machine.specs.Solo.{reached, ReachesNet}
 use Rattle.flow_machine.proofs.LogLemmas.{stamps-own, stamps-other, levels-own, levels-other}
-use Rattle.flow_machine.proofs.FitLemmas.{goes-by, goes-same, goes-work, thinks-step}
-use Rattle.flow_machine.proofs.SoloLemmas.{journal_of-append, remember-none, remember-then, think-count, turn-count}
+use Rattle.flow_machine.proofs.FitLemmas.{goes-same, goes-work, thinks-step}
+use Rattle.flow_machine.proofs.SoloLemmas.{journal_of-append, remember-none, remember-then, think-count}
 
 -- an error that is passed on
 pub passed-on : {T E : Type 0} (r : Result T E) (e : E) (P : E → Type 0) → IsErrAnd r (λ y. y ≡ e) → P e → IfErr r P
@@ -118,21 +118,3 @@ module _ {K : Type 0} (rules : Rules K) (lawful : Lawful rules) where
       by s fit stands (inr work) =
           let g = goes-work rules lawful old p think.before think.after new think.there work think.bodies think.channels s fit stands in
           (g.0, (Worked p ∷ [], refl, (g.0, g.1, refl)), g.2, g.3)
-
-  pub reach-made : (old : NetValue K) (p k m : ℕ) (e : Event) (new : NetValue K) → NetTurn old p k e m new → m ≡ turns_made old → Reached old new
-  reach-made old p k m e new turn at = record {
-    len = ap length turn.bodies ∙ length-set old.bodies p turn.after;
-    goes = (
-      record { process = p; seen = seen_by e } ∷ [],
-      omega (arith, turn-count old p k e m new turn),
-      record {
-        remembers = subst (λ (n : ℕ). Remembers n old.bodies (record { process = p; seen = seen_by e } ∷ []) new.bodies) at (remember-one old new p k m e turn);
-        states = λ s fit stands. let t = goes-by rules old p k e m new turn s fit stands in (t.0, (Turned p (seen_by e) ∷ [], refl, (e, t.0, t.1, refl, refl)), t.2, t.3);
-        connections = turn.connections;
-      },
-    );
-  }
-
-  pub reach-turn : (old : NetValue K) (p m : ℕ) (made : Bool) (new : NetValue K) → m ≡ turns_made old → MakesTurn old p m made new → Reached old new
-  reach-turn old p m true new at turn = reach-made old p (level_of old p) m turn.0 new turn.1 at
-  reach-turn old p m false new at none = subst (λ (net : NetValue K). Reached old net) (sym none.1) (reach-none old)

@@ -15,7 +15,7 @@ use Rattle.flow_model.specs.Works.{Work, worked}
 use Rattle.flow_model.proofs.Schedules.{turns-after}
 use Rattle.flow_model.specs.Stages.{IsThoughtStage}
 use Rattle.flow_model.specs.Schedules.{Journal, no_turns, then_turns, Settles, WorksLead, IsThought}
-use Rattle.flow_model.specs.Robin.{IsExact, ExactTurn, TurnsOf, PassBelow, Pass, Passes, joined}
+use Rattle.flow_model.specs.Robin.{IsExact, TurnsOf, PassBelow}
 use Rattle.flow_model.specs.Verdicts.{HasNoTurn, block_of, exact_level, exact_level_for}
 use Rattle.flow_model.specs.Stands.{BodyShown, NetShown, show_body, bodies_from, look_shown, StandsForOpen}
 use Rattle.flow_model.specs.Fit.{Fit}
@@ -34,7 +34,7 @@ use Rattle.flow_machine.specs.NetSteps.{ThinksNet, IsSetIn}
 use Rattle.flow_machine.specs.Thoughts.{SettlesBody, WorkedBody, SameBody, IsSet}
 use Rattle.flow_machine.specs.Logs.{Logged, journal_of, Remembers, stamps_of, levels_of, turns_made}
 use Rattle.flow_machine.specs.Starts.{AllSet}
-use Rattle.flow_machine.specs.Solo.{Goes, HasNoTurnIn, MakesTurn, SettlesNet, StarvesNet, IsFirstUnset, SetBelow, turns_of, burst_of, pass_below, some_passes, some_works, all_settled, round_robin}
+use Rattle.flow_machine.specs.Solo.{Goes, HasNoTurnIn, MakesTurn, SettlesNet, StarvesNet, IsFirstUnset, SetBelow, some_works, all_settled}
 use Rattle.flow_machine.proofs.Standings.{process-in, happens-in}
 use Rattle.flow_machine.proofs.NetTurns.{if_some, level-there, set-thought}
 use Rattle.flow_machine.proofs.LogLemmas.{stamps_of-append, levels_of-append, stamps-own, stamps-other, levels-own, levels-other}
@@ -58,10 +58,6 @@ body-from dropped k (b ∷ bodies) (y ∷ xs) (suc p) x same is = (let h : map s
 -- the body of a process of a state that the net stands for
 pub body-of : {K : Type 0} (net : NetValue K) (s : State K) (p : ℕ) (x : Process K) → StandsForOpen (shown_net net) s → slice_get s.kept.processes p ≡ Some x → (b : BodyValue K) × (slice_get net.bodies p ≡ Some b) × (b.process ≡ x)
 body-of {K} net s p x stands is = body-from s.past.dropped 0 net.bodies s.kept.processes p x (ap (λ (n : NetShown K). n.bodies) stands) is
-
--- a process that is blocked or over has no turn
-pub answer-turn : {K : Type 0} (old : NetValue K) (p stamp : ℕ) (s : ℕ) (new : NetValue K) → TurnsNet old p (level_of old p) stamp (turns.Made s) new → MakesTurn old p stamp true new
-answer-turn old p stamp s new made = made.1
 
 -- A turn that is blocked makes none.
 pub blocked-turn : {K : Type 0} (old : NetValue K) (p stamp : ℕ) (block : Block) (new : NetValue K) → TurnsNet old p (level_of old p) stamp (turns.Blocked block) new → MakesTurn old p stamp false new
@@ -96,48 +92,13 @@ settles-step rules old new (inl same) = inl same.1
 settles-step rules old new (inr work) = inr work
 
 -- a level turn saw the exact length
-exact-turn : {K : Type 0} (net : NetValue K) (s : State K) (p : ℕ) (b : BodyValue K) (e : Event) → StandsForOpen (shown_net net) s → slice_get net.bodies p ≡ Some b → event_from (looks_of net.channels) b.process (level_of net p) ≡ Some e → IsExact s.kept b.process e
+pub exact-turn : {K : Type 0} (net : NetValue K) (s : State K) (p : ℕ) (b : BodyValue K) (e : Event) → StandsForOpen (shown_net net) s → slice_get net.bodies p ≡ Some b → event_from (looks_of net.channels) b.process (level_of net p) ≡ Some e → IsExact s.kept b.process e
 exact-turn {K} net s p b (Learns port level) stands there happens =
     let at = explains s.kept.channels b.process (level_of net p) (Learns port level) (sym (happens-in net s b.process (level_of net p) stands) ∙ happens) in
     let exactly : exact_level (looks_of net.channels) b.process ≡ level_at (looks_of net.channels) b.process at.wished.0 = ap (exact_level_for (looks_of net.channels) b.process) at.stage in
     let same : looks_of net.channels ≡ looks s.kept.channels = ap (λ (n : NetShown K). map look_shown n.channels) stands ∙ looks-shown s.past.put 0 s.kept.channels in
     at.seen ∙ level-there net p b there ∙ exactly ∙ ap (λ (ls : List Look). level_at ls b.process at.wished.0) same ∙ ap (level_at (looks s.kept.channels) b.process) at.names
 exact-turn net s p b e stands there happens = tt
-
-TurnsOf-more : {K : Type 0} (rules : Rules K) (p : ℕ) (s : State K) (ts seen : List ℕ) (mid : State K) (e : Event) (s' : State K) → TurnsOf rules p s ts seen mid → ExactTurn rules mid p e s' → TurnsOf rules p s (ts ++ p ∷ []) (seen ++ (seen_by e ++ [])) s'
-TurnsOf-more {K} rules p s [] seen mid e s' go turn =
-    let seen_is : seen_by e ++ [] ≡ seen ++ (seen_by e ++ []) = ap (λ (ns : List ℕ). ns ++ (seen_by e ++ [])) (sym go.0) in
-    (refl, (e, s', [], subst (λ (m : State K). ExactTurn rules m p e s') go.1 turn, sym seen_is, (refl, refl)))
-TurnsOf-more rules p s (q ∷ ts) seen mid e s' go turn =
-    let more = go.1 in
-    (go.0, (more.0, more.1, more.2 ++ (seen_by e ++ []), more.3, ap (λ (ns : List ℕ). ns ++ (seen_by e ++ [])) more.4 ∙ append_assoc (seen_by more.0) more.2 (seen_by e ++ []), TurnsOf-more rules p more.1 ts more.2 mid e s' more.5 turn))
-
--- what bodies remember of a turn more
-remember-turn : {K : Type 0} (rules : Rules K) (old mid tn new : NetValue K) (p n m k : ℕ) (log : List Logged) (e : Event) → Remembers n old.bodies log mid.bodies → m ≡ n + length log → NetTurn mid p k e m tn → SettlesNet rules tn p new
-    → Remembers n old.bodies (log ++ record { process = p; seen = seen_by e } ∷ []) new.bodies
-remember-turn {K} rules old mid tn new p n m k log e remembers at turn settle q b b' was is = elim (same_or_not q p) [
-  | inl same ↦ (let one : Logged = record { process = p; seen = seen_by e } in
-      let here : Some settle.after ≡ Some b' = sym (slice_get-set_same tn.bodies p settle.before settle.after settle.there) ∙ ap (λ (bs : List (BodyValue K)). slice_get bs p) (sym settle.bodies) ∙ ap (slice_get new.bodies) (sym same) ∙ is in
-      let after_is : settle.after ≡ b' = cc in
-      let between : Some turn.after ≡ Some settle.before = sym (slice_get-set_same mid.bodies p turn.before turn.after turn.there) ∙ ap (λ (bs : List (BodyValue K)). slice_get bs p) (sym turn.bodies) ∙ settle.there in
-      let before_is : turn.after ≡ settle.before = cc in
-      let first = remembers p b turn.before (ap (slice_get old.bodies) (sym same) ∙ was) turn.there in
-      let stamps : b'.stamps ≡ b.stamps ++ stamps_of p n (log ++ one ∷ []) =
-      ap (λ (x : BodyValue K). x.stamps) (sym after_is) ∙ settle.keeps.stamps ∙ ap (λ (x : BodyValue K). x.stamps) (sym before_is) ∙ turn.turn.stamps ∙ ap (λ (xs : List ℕ). xs ++ m ∷ []) first.0
-      ∙ append_assoc b.stamps (stamps_of p n log) (m ∷ []) ∙ ap (λ (z : ℕ). b.stamps ++ (stamps_of p n log ++ z ∷ [])) at ∙ ap (λ (xs : List ℕ). b.stamps ++ (stamps_of p n log ++ xs)) (sym (stamps-own p (n + length log) (seen_by e)))
-      ∙ ap (λ (xs : List ℕ). b.stamps ++ xs) (sym (stamps_of-append p n log (one ∷ []))) in
-      let levels : b'.levels ≡ b.levels ++ levels_of p n (log ++ one ∷ []) =
-      ap (λ (x : BodyValue K). x.levels) (sym after_is) ∙ settle.keeps.levels ∙ ap (λ (x : BodyValue K). x.levels) (sym before_is) ∙ turn.turn.levels ∙ ap (λ (xs : List (ℕ × ℕ)). xs ++ levels_told e m) first.1
-      ∙ append_assoc b.levels (levels_of p n log) (levels_told e m) ∙ ap (λ (z : ℕ). b.levels ++ (levels_of p n log ++ levels_told e z)) at ∙ ap (λ (xs : List (ℕ × ℕ)). b.levels ++ (levels_of p n log ++ xs)) (sym (levels-own p (n + length log) e))
-      ∙ ap (λ (xs : List (ℕ × ℕ)). b.levels ++ xs) (sym (levels_of-append p n log (one ∷ []))) in
-      (stamps ∙ ap (λ (r : ℕ). b.stamps ++ stamps_of r n (log ++ one ∷ [])) (sym same), levels ∙ ap (λ (r : ℕ). b.levels ++ levels_of r n (log ++ one ∷ [])) (sym same)))
-  | inr other ↦ (let one : Logged = record { process = p; seen = seen_by e } in
-      let there : slice_get mid.bodies q ≡ Some b' = sym (slice_get-set_other mid.bodies p q turn.after other) ∙ ap (λ (bs : List (BodyValue K)). slice_get bs q) (sym turn.bodies) ∙ sym (slice_get-set_other tn.bodies p q settle.after other) ∙ ap (λ (bs : List (BodyValue K)). slice_get bs q) (sym settle.bodies) ∙ is in
-      let first = remembers q b b' was there in
-      let none : stamps_of q n (log ++ one ∷ []) ≡ stamps_of q n log = stamps_of-append q n log (one ∷ []) ∙ ap (λ (xs : List ℕ). stamps_of q n log ++ xs) (stamps-other q p (n + length log) (seen_by e) other) ∙ append-nil (stamps_of q n log) in
-      let no_level : levels_of q n (log ++ one ∷ []) ≡ levels_of q n log = levels_of-append q n log (one ∷ []) ∙ ap (λ (xs : List (ℕ × ℕ)). levels_of q n log ++ xs) (levels-other q p (n + length log) (seen_by e) other) ∙ append-nil (levels_of q n log) in
-      (first.0 ∙ ap (λ (xs : List ℕ). b.stamps ++ xs) (sym none), first.1 ∙ ap (λ (xs : List (ℕ × ℕ)). b.levels ++ xs) (sym no_level)))
-]
 
 -- memories follow one another
 pub remember-then : {K : Type 0} (a b c : List (BodyValue K)) (n m : ℕ) (log more : List Logged) → Remembers n a log b → m ≡ n + length log → Remembers m b more c → length b ≡ length c → Remembers n a (log ++ more) c
@@ -156,22 +117,12 @@ remember-none {K} n bodies p b b' was is =
     let same : b ≡ b' = cc in
     (ap (λ (x : BodyValue K). x.stamps) (sym same) ∙ sym (append-nil b.stamps), ap (λ (x : BodyValue K). x.levels) (sym same) ∙ sym (append-nil b.levels))
 
-Passes-more : {K : Type 0} (rules : Rules K) (s : State K) (passes : List Journal) (mid : State K) (pass : Journal) (s' : State K) → Passes rules s passes mid → pass.turns ≢ [] → Pass rules mid pass s' → Passes rules s (passes ++ pass ∷ []) s'
-Passes-more {K} rules s [] mid pass s' go some turn = (some, (s', subst (λ (m : State K). Pass rules m pass s') go turn, refl))
-Passes-more rules s (first ∷ passes) mid pass s' go some turn = (go.0, (go.1.0, go.1.1, Passes-more rules go.1.0 passes mid pass s' go.1.2 some turn))
-
-joined-more : (passes : List Journal) (pass : Journal) → joined (passes ++ pass ∷ []) ≡ then_turns (joined passes) pass
-joined-more [] pass = λ i. record { turns = append-nil pass.turns i; seen = append-nil pass.seen i }
-joined-more (first ∷ passes) pass =
-    ap (then_turns first) (joined-more passes pass)
-    ∙ (λ i. record { turns = sym (append_assoc first.turns (joined passes).turns pass.turns) i; seen = sym (append_assoc first.seen (joined passes).seen pass.seen) i })
-
 empty-front : {A : Type 0} (xs ys : List A) → xs ++ ys ≡ [] → (xs ≡ []) × (ys ≡ [])
 empty-front [] ys is = (refl, is)
 empty-front (x ∷ xs) ys is = absurd (cc)
 
 -- a pass without a turn changes nothing, and no process has a turn
-quiet-pass : {K : Type 0} (rules : Rules K) (n : ℕ) (s : State K) (journal : Journal) (s' : State K) → journal ≡ no_turns → PassBelow rules n s journal s' → (s' ≡ s) × ((p : ℕ) → p < n → HasNoTurn s.kept p)
+pub quiet-pass : {K : Type 0} (rules : Rules K) (n : ℕ) (s : State K) (journal : Journal) (s' : State K) → journal ≡ no_turns → PassBelow rules n s journal s' → (s' ≡ s) × ((p : ℕ) → p < n → HasNoTurn s.kept p)
 quiet-pass rules zero s journal s' none pass = (pass.1, λ p below. absurd (omega (arith, below)))
 quiet-pass {K} rules (suc n) s journal s' none (front, back, mid, components, first, burst) =
     let both : then_turns front back ≡ no_turns = sym components ∙ none in
@@ -216,156 +167,25 @@ module _ {K : Type 0} (rules : Rules K) (lawful : Lawful rules) where
           let g = goes-work rules lawful old p settle.before settle.after new settle.there work settle.bodies settle.channels s fit stands in
           (g.0, inr g.1, g.2, g.3)
 
-  -- a turn and what follows are a whole turn of the machine, which saw the exact length
-  whole-state : (old : NetValue K) (p m : ℕ) (e : Event) (mid new : NetValue K) → NetTurn old p (level_of old p) e m mid → SettlesNet rules mid p new → (s : State K) → Fit rules s → StandsForOpen (shown_net old) s
-      → (s' : State K) × ExactTurn rules s p e s' × Fit rules s' × StandsForOpen (shown_net new) s'
-  whole-state old p m e mid new turn settle s fit stands =
-      let t = goes-by rules old p (level_of old p) e m mid turn s fit stands in
-      let g = settle-state mid p new settle t.0 t.2 t.3 in
-      let b = turn.before in
-      let h : Some b.process ≡ Some t.1.kept.before = sym (process-in old s p b stands turn.there) ∙ t.1.kept.there in
-      let same : b.process ≡ t.1.kept.before = cc in
-      (g.0, record { mid = t.0; turn = t.1; exact = subst (λ (x : Process K). IsExact s.kept x e) same (exact-turn old s p b e stands turn.there turn.happens); settles = g.1 }, g.2, g.3)
-
-  -- a burst goes on by a whole turn
-  pub burst-more : (start old mid new : NetValue K) (p n m : ℕ) → Goes' (turns_of rules p) start n old m → MakesTurn old p m true mid → SettlesNet rules mid p new → Goes' (turns_of rules p) start n new (m + 1)
-  burst-more start old mid new p n m goes made settle =
-      let log = goes.0 in
-      let e = made.0 in
-      let turn = made.1 in
-      let one : Logged = record { process = p; seen = seen_by e } in
-      let by = goes.2 in (
-        log ++ one ∷ [],
-        omega (arith, goes.1, length-append log (one ∷ [])),
-        record {
-          remembers = remember-turn rules start old mid new p n m (level_of old p) log e by.remembers goes.1 turn settle;
-          states = λ s fit stands.
-              let g = by.states s fit stands in
-              let w = whole-state old p m e mid new turn settle g.0 g.2 g.3 in
-              let journal = journal_of-append log (one ∷ []) in
-              (w.0, subst (λ (j : Journal). TurnsOf rules p s j.turns j.seen w.0) (sym journal) (TurnsOf-more rules p s (journal_of log).turns (journal_of log).seen g.0 e w.0 g.1 w.1), w.2, w.3);
-          connections = settle.connections ∙ turn.connections ∙ by.connections;
-        },
-      )
-
-  pub burst-none : (start : NetValue K) (p n : ℕ) → Goes' (turns_of rules p) start n start n
-  burst-none start p n = ([], omega arith, record { remembers = remember-none n start.bodies; states = λ s fit stands. (s, (refl, refl), fit, stands); connections = refl })
-
-  no-turn-state : (net : NetValue K) (p : ℕ) (s : State K) → StandsForOpen (shown_net net) s → HasNoTurnIn net p → HasNoTurn s.kept p
+  pub no-turn-state : (net : NetValue K) (p : ℕ) (s : State K) → StandsForOpen (shown_net net) s → HasNoTurnIn net p → HasNoTurn s.kept p
   no-turn-state net p s stands none x n is =
       let b = body-of net s p x stands is in
       subst (λ (y : Process K). event_of s.kept.channels y n ≡ None) b.2 (sym (happens-in net s b.0.process n stands) ∙ none b.0 n b.1)
 
-  -- a burst ends where there is no turn
-  pub burst-ends : (start old new : NetValue K) (p n m : ℕ) → Goes' (turns_of rules p) start n old m → MakesTurn old p m false new → Goes' (burst_of rules p) start n new m
-  burst-ends start old new p n m goes none = subst (λ (net : NetValue K). Goes' (burst_of rules p) start n net m) (sym none.1) (
-    goes.0,
-    goes.1,
-    record {
-      remembers = goes.2.remembers;
-      states = λ s fit stands. let g = goes.2.states s fit stands in (g.0, (g.1, no-turn-state old p g.0 g.3 none.0), g.2, g.3);
-      connections = goes.2.connections;
-    },
-  )
-
-  pub pass-none : (start : NetValue K) (n : ℕ) → Goes' (pass_below rules 0) start n start n
-  pass-none start n = ([], omega arith, record { remembers = remember-none n start.bodies; states = λ s fit stands. (s, (refl, refl), fit, stands); connections = refl })
-
-  -- a pass goes on by a burst
-  pub pass-more : (start old new : NetValue K) (p n m k : ℕ) → length old.bodies ≡ length new.bodies → Goes' (pass_below rules p) start n old m → Goes' (burst_of rules p) old m new k → Goes' (pass_below rules (p + 1)) start n new k
-  pass-more start old new p n m k len goes burst = (
-    goes.0 ++ burst.0,
-    omega (arith, goes.1, burst.1, length-append goes.0 burst.0),
-    record {
-      remembers = remember-then start.bodies old.bodies new.bodies n m goes.0 burst.0 goes.2.remembers goes.1 burst.2.remembers len;
-      states = λ s fit stands.
-          let g = goes.2.states s fit stands in
-          let h = burst.2.states g.0 g.2 g.3 in
-          let to : PassBelow rules (suc p) s (journal_of (goes.0 ++ burst.0)) h.0 = (journal_of goes.0, journal_of burst.0, g.0, journal_of-append goes.0 burst.0, g.1, h.1) in
-          (h.0, subst (λ (z : ℕ). PassBelow rules z s (journal_of (goes.0 ++ burst.0)) h.0) (sym (add-one p)) to, h.2, h.3);
-      connections = burst.2.connections ∙ goes.2.connections;
-    },
-  )
-
-  processes-length : (net : NetValue K) (s : State K) → StandsForOpen (shown_net net) s → length net.bodies ≡ length s.kept.processes
+  pub processes-length : (net : NetValue K) (s : State K) → StandsForOpen (shown_net net) s → length net.bodies ≡ length s.kept.processes
   processes-length net s stands = bodies-length net.bodies ∙ ap (λ (n : NetShown K). length n.bodies) stands ∙ shown-length s.past.dropped 0 s.kept.processes
 
-  pub passes-none : (start : NetValue K) (n : ℕ) → Goes' (some_passes rules) start n start n
-  passes-none start n = ([], omega arith, record { remembers = remember-none n start.bodies; states = λ s fit stands. (s, ([], refl, refl), fit, stands); connections = refl })
-
-  some-turns : (log : List Logged) → 0 < length log → (journal_of log).turns ≢ []
-  some-turns [] some = λ h. omega (arith, some)
-  some-turns (t ∷ log) some = λ h. cc
-
-  -- a round goes on by a pass that has a turn
-  pub round-more : (start old new : NetValue K) (n m k : ℕ) → length old.bodies ≡ length new.bodies → Goes' (some_passes rules) start n old m → Goes' (pass_below rules (length old.bodies)) old m new k → m < k → Goes' (some_passes rules) start n new k
-  round-more start old new n m k len goes pass some = (
-    goes.0 ++ pass.0,
-    omega (arith, goes.1, pass.1, length-append goes.0 pass.0),
-    record {
-      remembers = remember-then start.bodies old.bodies new.bodies n m goes.0 pass.0 goes.2.remembers goes.1 pass.2.remembers len;
-      states = λ s fit stands.
-          let g = goes.2.states s fit stands in
-          let h = pass.2.states g.0 g.2 g.3 in
-          let whole : Pass rules g.0 (journal_of pass.0) h.0 = subst (λ (z : ℕ). PassBelow rules z g.0 (journal_of pass.0) h.0) (processes-length old g.0 g.3) h.1 in
-          let moved = some-turns pass.0 (omega (arith, pass.1, some)) in
-          (h.0, (g.1.0 ++ journal_of pass.0 ∷ [], journal_of-append goes.0 pass.0 ∙ ap (λ (j : Journal). then_turns j (journal_of pass.0)) g.1.1 ∙ sym (joined-more g.1.0 (journal_of pass.0)), Passes-more rules s g.1.0 g.0 (journal_of pass.0) h.0 g.1.2 moved whole), h.2, h.3);
-      connections = pass.2.connections ∙ goes.2.connections;
-    },
-  )
-
-  no-log : (log : List Logged) → length log ≡ 0 → log ≡ []
+  pub no-log : (log : List Logged) → length log ≡ 0 → log ≡ []
   no-log [] is = refl
   no-log (t ∷ log) is = absurd (omega (arith, is))
 
-  all-thought : (net : NetValue K) (s : State K) → StandsForOpen (shown_net net) s → AllSet net.bodies → (p : ℕ) (x : Process K) → slice_get s.kept.processes p ≡ Some x → IsThoughtStage x.stage
+  pub all-thought : (net : NetValue K) (s : State K) → StandsForOpen (shown_net net) s → AllSet net.bodies → (p : ℕ) (x : Process K) → slice_get s.kept.processes p ≡ Some x → IsThoughtStage x.stage
   all-thought net s stands set p x is =
       let b = body-of net s p x stands is in
       subst (λ (y : Process K). IsThoughtStage y.stage) b.2 (set-thought b.0 b.0.process.stage (set p b.0 b.1))
 
-  not-told : (stage : Stage) (answer : Answer) → IsThoughtStage stage → stage ≢ stages.Told answer
+  pub not-told : (stage : Stage) (answer : Answer) → IsThoughtStage stage → stage ≢ stages.Told answer
   not-told stage answer thought = λ is. subst IsThoughtStage is thought
-
-  -- a round ends by a pass without a turn
-  pub round-ends : (first start old new : NetValue K) (n k m : ℕ) → length start.bodies ≡ length first.bodies → length old.bodies ≡ length start.bodies → length new.bodies ≡ length old.bodies → AllSet new.bodies → Goes' (all_settled rules) first n start n → Goes' (some_passes rules) start n old m
-      → Goes' (pass_below rules (length old.bodies)) old m new k → k ≡ m → Goes' (round_robin rules) first n new k
-  round-ends first start old new n k m len0 len1 len2 set settled goes pass none =
-      let front_none : settled.0 ≡ [] = no-log settled.0 (omega (arith, settled.1)) in
-      let last_none : pass.0 ≡ [] = no-log pass.0 (omega (arith, pass.1, none)) in
-      let whole : Remembers n start.bodies (goes.0 ++ pass.0) new.bodies = remember-then start.bodies old.bodies new.bodies n m goes.0 pass.0 goes.2.remembers goes.1 pass.2.remembers (sym len2) in
-      let log_is : settled.0 ++ (goes.0 ++ pass.0) ≡ goes.0 = ap (λ (l : List Logged). l ++ (goes.0 ++ pass.0)) front_none ∙ ap (λ (l : List Logged). goes.0 ++ l) last_none ∙ append-nil goes.0 in
-      let remembers : Remembers n first.bodies (settled.0 ++ (goes.0 ++ pass.0)) new.bodies = remember-then first.bodies start.bodies new.bodies n n settled.0 (goes.0 ++ pass.0) settled.2.remembers settled.1 whole (sym (len2 ∙ len1)) in (
-        goes.0,
-        none ∙ goes.1,
-        record {
-          remembers = subst (λ (l : List Logged). Remembers n first.bodies l new.bodies) log_is remembers;
-          states = λ s fit stands.
-              let t = settled.2.states s fit stands in
-              let g = goes.2.states t.0 t.2 t.3 in
-              let h = pass.2.states g.0 g.2 g.3 in
-              let passed : Pass rules g.0 (journal_of pass.0) h.0 = subst (λ (z : ℕ). PassBelow rules z g.0 (journal_of pass.0) h.0) (processes-length old g.0 g.3) h.1 in
-              let empty : journal_of pass.0 ≡ no_turns = ap journal_of last_none in
-              let still = quiet-pass rules (length g.0.kept.processes) g.0 (journal_of pass.0) h.0 empty passed in
-              let last : Pass rules h.0 no_turns h.0 = subst (λ (j : Journal). Pass rules h.0 j h.0) empty (subst (λ (u : State K). Pass rules u (journal_of pass.0) h.0) (sym still.0) passed) in (
-                h.0,
-                (
-                  t.0,
-                  t.1.1,
-                  record { passes = g.1.0; whole = g.1.1; go = subst (λ (u : State K). Passes rules t.0 g.1.0 u) (sym still.0) g.1.2; last = last },
-                  record {
-                    thought = λ p x is answer. not-told x.stage answer (all-thought new h.0 h.3 set p x is);
-                    still = λ p. subst (λ (u : State K). HasNoTurn u.kept p) (sym still.0) (quiet-at g.0 p still.1);
-                  },
-                ),
-                h.2,
-                h.3,
-              );
-          connections = pass.2.connections ∙ goes.2.connections ∙ settled.2.connections;
-        },
-      )
-    where
-      quiet-at : (s : State K) (p : ℕ) → ((q : ℕ) → q < length s.kept.processes → HasNoTurn s.kept q) → HasNoTurn s.kept p
-      quiet-at s p all x n is = all p (slice_get_within s.kept.processes p x is) x n is
 
   -- pending works, one process after another
   pub works-none : (start : NetValue K) (n : ℕ) → Goes' (some_works rules) start n start n
@@ -480,8 +300,3 @@ first-unset {K} old new p set starves = subst (λ (bs : List (BodyValue K)). IsF
   unset = starves.unset;
   below = λ q b below is. set q b below (sym (slice_get-set_other old.bodies p q starves.after (λ (same : q ≡ p). omega (arith, below, same))) ∙ is);
 })
-
--- a turn of p leaves the processes below it as they were
-pub set-turned : {K : Type 0} (old new : NetValue K) (p k m : ℕ) (e : Event) → AllSet old.bodies → NetTurn old p k e m new → SetBelow p new.bodies
-set-turned {K} old new p k m e set turn q b below is =
-    set q b (sym (slice_get-set_other old.bodies p q turn.after (λ (same : q ≡ p). omega (arith, below, same))) ∙ ap (λ (bs : List (BodyValue K)). slice_get bs q) (sym turn.bodies) ∙ is)

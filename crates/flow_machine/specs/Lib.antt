@@ -19,3 +19,4 @@ pub mod Solo
 pub mod Wires
 pub mod Quiet
 pub mod Stamps
+pub mod Rounds

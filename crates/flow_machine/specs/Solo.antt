@@ -5,7 +5,7 @@ use Rattle.flow_model.specs.States.{State}
 use Rattle.flow_model.specs.Events.{Event, event_from}
 use Rattle.flow_model.specs.Schedules.{Journal, no_turns, SettlesAll, WorksLead, Step, Reaches}
 use Rattle.flow_model.specs.Schedules.{journal_of as steps_journal}
-use Rattle.flow_model.specs.Robin.{TurnsOf, Burst, PassBelow, Passes, joined, RoundRobin}
+use Rattle.flow_model.specs.Robin.{RoundRobin}
 use Rattle.flow_model.specs.Verdicts.{Quiet}
 use Rattle.flow_model.specs.Stands.{StandsForOpen}
 use Rattle.flow_model.specs.Fit.{Fit}
@@ -69,22 +69,6 @@ pub record IsFirstUnset {K : Type 0} (bodies : List (BodyValue K)) (p : ℕ) : T
   pub there : slice_get bodies p ≡ Some body
   pub unset : IsUnset body
   pub below : SetBelow p bodies
-
--- Turns of p alone; a burst of p; a pass over the processes below p; passes that have turns.
-abbrev pub turns_of : {K : Type 0} → Rules K → ℕ → Journal → State K → State K → Type 0
-turns_of rules p journal s s' = TurnsOf rules p s journal.turns journal.seen s'
-
--- Turns of one process until it has none.
-abbrev pub burst_of : {K : Type 0} → Rules K → ℕ → Journal → State K → State K → Type 0
-burst_of rules p journal s s' = Burst rules p s journal s'
-
--- A pass over the first n processes.
-abbrev pub pass_below : {K : Type 0} → Rules K → ℕ → Journal → State K → State K → Type 0
-pass_below rules n journal s s' = PassBelow rules n s journal s'
-
--- Passes, each with a turn.
-abbrev pub some_passes : {K : Type 0} → Rules K → Journal → State K → State K → Type 0
-some_passes rules journal s s' = (passes : List Journal) × (journal ≡ joined passes) × Passes rules s passes s'
 
 -- Works of some processes, without a turn; all works that were to come.
 abbrev pub some_works : {K : Type 0} → Rules K → Journal → State K → State K → Type 0

@@ -36,6 +36,17 @@ pub enum Over {
     Starved,
 }
 
+/// Why one thread rests.
+#[derive(Clone, Copy, Debug, PartialEq, Eq)]
+pub enum Rest {
+    /// No process has a turn.
+    Quiet,
+    /// The thought of this process came to nothing: it found no memory, or wants something from outside. The same thought may be had again.
+    Starved(u32),
+    /// As many turns are remembered as were asked for.
+    Full,
+}
+
 /// What a call for a turn came to.
 #[derive(Clone, Copy, Debug, PartialEq, Eq)]
 pub enum Turn {

@@ -12,7 +12,7 @@ mod outlets;
 mod start;
 mod wires;
 
-pub use answers::{Case, Effect, Over, Status, Thought, Turn};
+pub use answers::{Case, Effect, Over, Rest, Status, Thought, Turn};
 pub use body::Body;
 pub use channel::Channel;
 pub use flow_model::{Block, Stage};

@@ -25,6 +25,7 @@ mod levels;
 mod pair;
 mod parts;
 mod round;
+mod steps;
 mod turns;
 
 pub use parts::Parts;

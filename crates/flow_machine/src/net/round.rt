@@ -1,18 +1,15 @@
 //! One thread runs a network: each process takes turns until it has none, round and round.
-ghost use Rattle.std.specs.Prelude.{◌≡◌, ◌<◌, ◌≤◌, ◌+◌, length, [], OnOk, IfOk, IfErr};
-ghost use Rattle.flow_limits.specs.declared.TheConstants.{RUN_LIMIT};
-ghost use Rattle.std.specs.Bool.{OnTrue, OnFalse};
-ghost use Rattle.flow_machine.specs.NetSteps.{IsSetIn};
+ghost use Rattle.std.specs.Prelude.{◌≡◌, length, [], OnOk, IfOk, IfErr};
 ghost use Rattle.flow_machine.specs.Quiet.{EndedAreTold};
 ghost use Rattle.flow_machine.specs.Starts.{AllSet};
 ghost use Rattle.flow_machine.specs.Logs.{turns_made};
-ghost use Rattle.flow_machine.specs.Solo.{Goes, MakesTurn, SettlesNet, StarvesNet, IsFirstUnset, ReachesNet, StopsAt, all_settled, burst_of, pass_below, round_robin};
+ghost use Rattle.flow_machine.specs.Solo.{Goes, IsFirstUnset, ReachesNet, StopsAt, all_settled, round_robin};
 
 use super::Net;
-use crate::answers::{Thought, Turn};
-use flow_component::{Component, NoGate};
+use crate::answers::Rest;
+use flow_component::Component;
+use flow_model::Standing;
 use std::alloc::Global;
-
 /// A run that is over: the network, and the processes whose thoughts found no memory.
 pub struct Closed<K: Component> {
     pub net: Net<K>,
@@ -35,74 +32,6 @@ impl<K: Component> Closed<K> {
 }
 
 impl<K: Component> Net<K> {
-    /// Makes a turn of a process, if it has one. Takes no memory. Nearly all turns receive or send, and have a way of their own.
-    #[inline(always)]
-    fn make_turn(&mut self, process: u32, stamp: u32) -> bool
-        requires in_range { process < length self.old.bodies }
-        requires set { IsSetIn self.old process }
-        requires next { stamp ≡ turns_made self.old }
-        ensures turn { MakesTurn self.old process stamp result self.new }
-        ensures reaches { ReachesNet K.rules self.old self.new }
-        ensures next { OnTrue result (turns_made self.new ≡ stamp + 1) }
-        ensures few { turns_made self.new ≤ RUN_LIMIT }
-    {
-        if self.body(process).wishes_packet() {
-            self.try_turn(process, stamp)
-        } else {
-            self.try_turn_apart(process, stamp)
-        }
-    }
-
-    /// The same, apart from the turns that receive or send.
-    #[cold]
-    #[inline(never)]
-    fn try_turn_apart(&mut self, process: u32, stamp: u32) -> bool
-        requires in_range { process < length self.old.bodies }
-        requires set { IsSetIn self.old process }
-        requires next { stamp ≡ turns_made self.old }
-        ensures turn { MakesTurn self.old process stamp result self.new }
-        ensures reaches { ReachesNet K.rules self.old self.new }
-        ensures next { OnTrue result (turns_made self.new ≡ stamp + 1) }
-        ensures few { turns_made self.new ≤ RUN_LIMIT }
-    {
-        self.try_turn(process, stamp)
-    }
-
-    /// Makes a turn of a process, if it has one.
-    #[inline(always)]
-    fn try_turn(&mut self, process: u32, stamp: u32) -> bool
-        requires in_range { process < length self.old.bodies }
-        requires set { IsSetIn self.old process }
-        requires next { stamp ≡ turns_made self.old }
-        ensures turn { MakesTurn self.old process stamp result self.new }
-        ensures reaches { ReachesNet K.rules self.old self.new }
-        ensures next { OnTrue result (turns_made self.new ≡ stamp + 1) }
-        ensures few { turns_made self.new ≤ RUN_LIMIT }
-    {
-        match self.turn(process, stamp) {
-            Turn::Made(_) => true,
-            Turn::Blocked(_) => false,
-            Turn::Over(_) => false,
-        }
-    }
-
-    /// Does the pending work of a process, and takes the room of its next turn. False: there was no memory.
-    #[inline(always)]
-    fn settle(&mut self, process: u32) -> bool
-        requires { process < length self.old.bodies }
-        ensures settles { OnTrue result (SettlesNet K.rules self.old process self.new) }
-        ensures starves { OnFalse result (StarvesNet self.old process self.new) }
-        ensures reaches { ReachesNet K.rules self.old self.new }
-        ensures len { length self.new.bodies ≡ length self.old.bodies }
-        ensures turns { turns_made self.new ≡ turns_made self.old }
-    {
-        match self.think(process, &NoGate) {
-            Thought::Wishing => true,
-            Thought::Failed(_) => true,
-            Thought::NoMemory => false,
-        }
-    }
-
     /// Does all pending works. An error is the first process that found no memory.
     fn settle_all(&mut self) -> Result<(), u32>
         ensures set { OnOk result (AllSet self.new.bodies) }
@@ -120,50 +49,6 @@ impl<K: Component> Net<K> {
         Ok(())
     }
 
-    /// A process takes turns until it has none.
-    fn burst(&mut self, process: u32, stamp: &mut u32) -> Result<(), u32>
-        requires in_range { process < length self.old.bodies }
-        requires set { AllSet self.old.bodies }
-        requires next { stamp.old ≡ turns_made self.old }
-        requires few { stamp.old ≤ RUN_LIMIT }
-        ensures set { OnOk result (AllSet self.new.bodies) }
-        ensures next { OnOk result (stamp.new ≡ turns_made self.new) }
-        ensures few { OnOk result (stamp.new ≤ RUN_LIMIT) }
-        ensures len { length self.new.bodies ≡ length self.old.bodies }
-        ensures goes { OnOk result (Goes K.rules (burst_of K.rules process) self.old stamp.old self.new stamp.new) }
-        ensures reaches { ReachesNet K.rules self.old self.new }
-        ensures starved { IfErr result (IsFirstUnset self.new.bodies) }
-    {
-        while self.make_turn(process, *stamp) {
-            *stamp += 1;
-            if !self.settle(process) {
-                return Err(process);
-            }
-        }
-        Ok(())
-    }
-
-    /// A burst of each process. It answers whether a turn was made.
-    fn pass(&mut self, stamp: &mut u32) -> Result<bool, u32>
-        requires set { AllSet self.old.bodies }
-        requires next { stamp.old ≡ turns_made self.old }
-        requires few { stamp.old ≤ RUN_LIMIT }
-        ensures set { OnOk result (AllSet self.new.bodies) }
-        ensures next { OnOk result (stamp.new ≡ turns_made self.new) }
-        ensures few { OnOk result (stamp.new ≤ RUN_LIMIT) }
-        ensures len { length self.new.bodies ≡ length self.old.bodies }
-        ensures goes { OnOk result (Goes K.rules (pass_below K.rules (length self.old.bodies)) self.old stamp.old self.new stamp.new) }
-        ensures moved { IfOk result (λ moved. OnTrue moved (stamp.old < stamp.new) × OnFalse moved (stamp.new ≡ stamp.old)) }
-        ensures reaches { ReachesNet K.rules self.old self.new }
-        ensures starved { IfErr result (IsFirstUnset self.new.bodies) }
-    {
-        let before = *stamp;
-        for process in 0..self.processes() {
-            self.burst(process, stamp)?;
-        }
-        Ok(*stamp != before)
-    }
-
     /// Passes, until one has no turn.
     fn go_round(&mut self) -> Result<(), u32>
         ensures set { OnOk result (AllSet self.new.bodies) }
@@ -172,9 +57,12 @@ impl<K: Component> Net<K> {
         ensures starved { IfErr result (IsFirstUnset self.new.bodies) }
     {
         self.settle_all()?;
-        let mut stamp = self.turns_made();
-        while self.pass(&mut stamp)? {}
-        Ok(())
+        let mut standing = Standing::first();
+        match self.go_on(&mut standing, u32::MAX) {
+            Rest::Quiet => Ok(()),
+            Rest::Starved(process) => Err(process),
+            Rest::Full => unreachable!(),
+        }
     }
 }
 

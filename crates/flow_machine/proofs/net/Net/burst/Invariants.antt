@@ -1,19 +1,22 @@
-use Rattle.std.proofs.Common.{◌≡◌, ◌≤◌, ◌-◌, length}
+use Rattle.std.proofs.Common.{◌≡◌, ◌<◌, ◌≤◌, ◌-◌, length}
 use Rattle.flow_limits.specs.declared.TheConstants.{RUN_LIMIT}
 use Rattle.flow_machine.specs.Logs.{turns_made}
 use Rattle.flow_machine.specs.Starts.{AllSet}
-use Rattle.flow_machine.specs.Solo.{Goes, ReachesNet, turns_of}
+use Rattle.flow_machine.specs.Solo.{Goes}
+use Rattle.flow_machine.specs.Rounds.{stepped, MovedBy}
 use Rattle.flow_machine.proofs.net.Net.burst.Given as goal
 
-abbrev pub invariant-loop-stamp : goal.invariant-loop-stamp
-invariant-loop-stamp g l = record {
+abbrev pub invariant-turns : goal.invariant-turns
+invariant-turns g l = record {
   set : AllSet l.self.bodies;
   len : length l.self.bodies ≡ length l.fn.self.bodies;
+  place : l.standing.at ≡ l.fn.standing.at;
   next : l.stamp ≡ turns_made l.self;
   few : l.stamp ≤ RUN_LIMIT;
-  reaches : ReachesNet g.K.Component.rules l.fn.self l.self;
-  goes : Goes g.K.Component.rules (turns_of g.K.Component.rules l.process) l.fn.self l.fn.stamp l.self l.stamp;
+  most : l.fn.stamp < l.stamp → l.stamp ≤ l.most;
+  moved : MovedBy l.fn.standing.moved l.fn.stamp l.standing.moved l.stamp;
+  goes : Goes g.K.Component.rules (stepped g.K.Component.rules l.fn.standing l.standing) l.fn.self l.fn.stamp l.self l.stamp;
 }
 
-abbrev pub decreases-loop-stamp : goal.decreases-loop-stamp
-decreases-loop-stamp g l = RUN_LIMIT - l.stamp
+abbrev pub decreases-turns : goal.decreases-turns
+decreases-turns g l = l.most - l.stamp

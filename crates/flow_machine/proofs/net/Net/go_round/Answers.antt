@@ -1,55 +1,50 @@
-use Rattle.std.proofs.Common.{◌≡◌, ℕ, arith, refl, sym, ◌∙◌, subst}
+use Rattle.std.proofs.Common.{◌≡◌, ℕ, ◌≤◌, ◌<◌, length, arith, refl, sym, ◌∙◌, ap, subst}
+use Rattle.flow_limits.specs.declared.TheConstants.{RUN_LIMIT}
+use Rattle.flow_model.specs.declared.Standing.{Standing}
+use Rattle.flow_model.specs.Steps.{first_standing, last_standing}
 use Rattle.flow_machine.specs.Logs.{turns_made}
-use Rattle.flow_machine.specs.Solo.{Goes, IsFirstUnset, some_passes, round_robin}
-use Rattle.flow_machine.proofs.SoloLemmas.{passes-none, round-more, round-ends}
-use Rattle.flow_machine.proofs.Reaching.{reach-none, reach-then, passed-on}
+use Rattle.flow_machine.specs.Solo.{Goes, IsFirstUnset}
+use Rattle.flow_machine.specs.Rounds.{stepped}
+use Rattle.flow_machine.proofs.Reaching.{reach-then, passed-on}
+use Rattle.flow_machine.proofs.StepLemmas.{steps-robin, steps-reached, first-alone}
 use Rattle.flow_machine.proofs.net.Net.go_round.Goals as goal
 
-pub loop-init : goal.loop-init
-loop-init g c = record { set = c.in_ok-settle_all.ensures.set; len = refl; next = c.turns_made-stamp.ensures.turns; few = c.turns_made-stamp.ensures.few; reaches = reach-none g.K.Component.rules g.met.K.Component.lawful c.settle_all.new.self; goes = passes-none g.K.Component.rules g.met.K.Component.lawful c.settle_all.new.self c.turns_made-stamp.result }
+pub go_on-requires : goal.go_on-requires
+go_on-requires g c = record { place = rw c.first-standing.ensures (omega arith); set = λ q b other is. c.in_ok-settle_all.ensures.set q b is }
 
-pub loop-preserved : goal.loop-preserved
-loop-preserved g c =
-    let inv = c.loop.invariant in
-    let e = c.in_ok-pass.ensures in
-    let moved = rw c.if-branch.true at e.moved in
-    record {
-      set = e.set;
-      len = e.len ∙ inv.len;
-      next = e.next;
-      few = e.few;
-      reaches = reach-then g.K.Component.rules g.met.K.Component.lawful c.settle_all.new.self c.loop.self c.pass.new.self inv.reaches e.reaches;
-      goes = round-more g.K.Component.rules g.met.K.Component.lawful c.settle_all.new.self c.loop.self c.pass.new.self c.turns_made-stamp.result c.loop.stamp c.pass.new.stamp (sym e.len) inv.goes e.goes moved.0;
-    }
+pub returns-in-Quiet-clause-set : goal.returns-in-Quiet-clause-set
+returns-in-Quiet-clause-set g c = c.in-Quiet.ensures.rests.0
 
-pub loop-smaller : goal.loop-smaller
-loop-smaller g c =
-    let moved = rw c.if-branch.true at c.in_ok-pass.ensures.moved in
-    omega (arith, moved.0, c.in_ok-pass.ensures.few)
-
-pub returns-clause-goes : goal.returns-clause-goes
-returns-clause-goes g c =
-    let inv = c.loop.invariant in
-    let e = c.in_ok-pass.ensures in
+pub returns-in-Quiet-clause-goes : goal.returns-in-Quiet-clause-goes
+returns-in-Quiet-clause-goes g c =
     let s = c.in_ok-settle_all.ensures in
-    let moved = rw c.if-branch.false at e.moved in
-    let first : c.turns_made-stamp.result ≡ turns_made c.args.self.now = c.turns_made-stamp.ensures.turns ∙ s.turns in
-    let goes : Goes g.K.Component.rules (some_passes g.K.Component.rules) c.settle_all.new.self (turns_made c.args.self.now) c.loop.self c.loop.stamp = subst (λ (n : ℕ). Goes g.K.Component.rules (some_passes g.K.Component.rules) c.settle_all.new.self n c.loop.self c.loop.stamp) first inv.goes in
-    subst (λ (n : ℕ). Goes g.K.Component.rules (round_robin g.K.Component.rules) c.args.self.now (turns_made c.args.self.now) c.pass.new.self n) e.next
-    (round-ends g.K.Component.rules g.met.K.Component.lawful c.args.self.now c.settle_all.new.self c.loop.self c.pass.new.self (turns_made c.args.self.now) c.pass.new.stamp c.loop.stamp s.len inv.len e.len e.set s.goes goes e.goes moved.1)
+    let e = c.in-Quiet.ensures in
+    let first : c.first-standing.result ≡ first_standing = c.first-standing.ensures in
+    let last : c.go_on.new.standing ≡ last_standing (length c.go_on.new.self.bodies) = e.rests.1 in
+    let goes : Goes g.K.Component.rules (stepped g.K.Component.rules first_standing (last_standing (length c.go_on.new.self.bodies))) c.settle_all.new.self (turns_made c.args.self.now) c.go_on.new.self (turns_made c.go_on.new.self) =
+    subst (λ (n : ℕ). Goes g.K.Component.rules (stepped g.K.Component.rules first_standing (last_standing (length c.go_on.new.self.bodies))) c.settle_all.new.self n c.go_on.new.self (turns_made c.go_on.new.self)) s.turns
+    (subst (λ (z : Standing). Goes g.K.Component.rules (stepped g.K.Component.rules first_standing z) c.settle_all.new.self (turns_made c.settle_all.new.self) c.go_on.new.self (turns_made c.go_on.new.self)) last
+    (subst (λ (z : Standing). Goes g.K.Component.rules (stepped g.K.Component.rules z c.go_on.new.standing) c.settle_all.new.self (turns_made c.settle_all.new.self) c.go_on.new.self (turns_made c.go_on.new.self)) first e.goes)) in
+    steps-robin g.K.Component.rules g.met.K.Component.lawful c.args.self.now c.settle_all.new.self c.go_on.new.self (turns_made c.args.self.now) (turns_made c.go_on.new.self) s.len e.len e.rests.0 s.goes goes
 
-pub returns-clause-reaches : goal.returns-clause-reaches
-returns-clause-reaches g c = reach-then g.K.Component.rules g.met.K.Component.lawful c.args.self.now c.settle_all.new.self c.pass.new.self c.settle_all.ensures.reaches (reach-then g.K.Component.rules g.met.K.Component.lawful c.settle_all.new.self c.loop.self c.pass.new.self c.loop.invariant.reaches c.pass.ensures.reaches)
+pub returns-in-Quiet-clause-reaches : goal.returns-in-Quiet-clause-reaches
+returns-in-Quiet-clause-reaches g c =
+    reach-then g.K.Component.rules g.met.K.Component.lawful c.args.self.now c.settle_all.new.self c.go_on.new.self c.settle_all.ensures.reaches
+    (steps-reached g.K.Component.rules g.met.K.Component.lawful c.settle_all.new.self c.go_on.new.self c.first-standing.result c.go_on.new.standing c.go_on.ensures.len c.go_on.ensures.goes)
+
+pub returns-in-Starved-clause-reaches : goal.returns-in-Starved-clause-reaches
+returns-in-Starved-clause-reaches g c =
+    reach-then g.K.Component.rules g.met.K.Component.lawful c.args.self.now c.settle_all.new.self c.go_on.new.self c.settle_all.ensures.reaches
+    (steps-reached g.K.Component.rules g.met.K.Component.lawful c.settle_all.new.self c.go_on.new.self c.first-standing.result c.go_on.new.standing c.go_on.ensures.len c.go_on.ensures.goes)
+
+pub returns-in-Starved-clause-starved : goal.returns-in-Starved-clause-starved
+returns-in-Starved-clause-starved g c = first-alone c.go_on.new.self.bodies c.in-Starved.process c.in-Starved.ensures.rests.1
 
 pub returns-in_err-settle_all-clause-reaches : goal.returns-in_err-settle_all-clause-reaches
 returns-in_err-settle_all-clause-reaches g c = c.settle_all.ensures.reaches
 
-pub returns-in_err-pass-clause-reaches : goal.returns-in_err-pass-clause-reaches
-returns-in_err-pass-clause-reaches g c = reach-then g.K.Component.rules g.met.K.Component.lawful c.args.self.now c.settle_all.new.self c.pass.new.self c.settle_all.ensures.reaches (reach-then g.K.Component.rules g.met.K.Component.lawful c.settle_all.new.self c.loop.self c.pass.new.self c.loop.invariant.reaches c.pass.ensures.reaches)
-
 pub returns-in_err-settle_all-clause-starved : goal.returns-in_err-settle_all-clause-starved
 returns-in_err-settle_all-clause-starved g c = passed-on c.from_residual.result c.in_err-settle_all.field-0.0 (IsFirstUnset c.settle_all.new.self.bodies) c.from_residual.ensures.1 c.in_err-settle_all.ensures.starved
 
-pub returns-in_err-pass-clause-starved : goal.returns-in_err-pass-clause-starved
-returns-in_err-pass-clause-starved g c =
-    passed-on c.from_residual-in_err-pass.result c.in_err-pass.field-0.0 (IsFirstUnset c.pass.new.self.bodies) c.from_residual-in_err-pass.ensures.1 c.in_err-pass.ensures.starved
+pub unreachable-in-Full : goal.unreachable-in-Full
+unreachable-in-Full g c = omega (arith, c.in-Full.ensures.rests.1, c.in-Full.ensures.few)

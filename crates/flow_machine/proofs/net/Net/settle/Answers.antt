@@ -1,5 +1,6 @@
 use Rattle.flow_machine.proofs.SoloLemmas.{settles-wishing, settles-failed, starves-memory, think-count}
 use Rattle.flow_machine.proofs.Reaching.{reach-think}
+use Rattle.flow_machine.proofs.StepLemmas.{works-thought}
 use Rattle.flow_machine.proofs.net.Net.settle.Goals as goal
 
 pub returns-in-Wishing-clause-settles : goal.returns-in-Wishing-clause-settles
@@ -28,3 +29,12 @@ returns-in-NoMemory-clause-reaches g c = reach-think g.K.Component.rules g.met.K
 
 pub returns-in-NoMemory-clause-starves : goal.returns-in-NoMemory-clause-starves
 returns-in-NoMemory-clause-starves g c = starves-memory g.K.Component.rules c.args.self.now c.args.process c.think.new.self c.in-NoMemory.ensures.thinks
+
+pub returns-in-Wishing-clause-works : goal.returns-in-Wishing-clause-works
+returns-in-Wishing-clause-works g c = works-thought g.K.Component.rules c.args.self.now c.args.process c.think.result c.think.new.self c.think.ensures.thinks
+
+pub returns-in-Failed-clause-works : goal.returns-in-Failed-clause-works
+returns-in-Failed-clause-works g c = works-thought g.K.Component.rules c.args.self.now c.args.process c.think.result c.think.new.self c.think.ensures.thinks
+
+pub returns-in-NoMemory-clause-works : goal.returns-in-NoMemory-clause-works
+returns-in-NoMemory-clause-works g c = works-thought g.K.Component.rules c.args.self.now c.args.process c.think.result c.think.new.self c.think.ensures.thinks

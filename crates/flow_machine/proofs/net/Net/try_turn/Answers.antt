@@ -1,7 +1,7 @@
 use Rattle.std.proofs.Common.{◌+◌, ℕ, sym, ◌∙◌, ap, true, false}
 use Rattle.flow_machine.specs.Nets.{level_of}
 use Rattle.flow_machine.proofs.SoloLemmas.{blocked-turn, over-turn, turn-count}
-use Rattle.flow_machine.proofs.Reaching.{reach-turn}
+use Rattle.flow_machine.proofs.StepLemmas.{made-length}
 use Rattle.flow_machine.proofs.net.Net.try_turn.Goals as goal
 
 pub returns-in-Made-clause-turn : goal.returns-in-Made-clause-turn
@@ -18,11 +18,11 @@ returns-in-Blocked-clause-turn g c = blocked-turn c.args.self.now c.args.process
 pub returns-in-Over-clause-turn : goal.returns-in-Over-clause-turn
 returns-in-Over-clause-turn g c = over-turn c.args.self.now c.args.process c.args.stamp c.in-Over.field-0 c.turn.new.self c.in-Over.ensures.turns
 
-pub returns-in-Made-clause-reaches : goal.returns-in-Made-clause-reaches
-returns-in-Made-clause-reaches g c = reach-turn g.K.Component.rules g.met.K.Component.lawful c.args.self.now c.args.process c.args.stamp true c.turn.new.self c.requires.next c.in-Made.ensures.turns.1
+pub returns-in-Made-clause-len : goal.returns-in-Made-clause-len
+returns-in-Made-clause-len g c = made-length c.args.self.now c.args.process c.args.stamp true c.turn.new.self c.in-Made.ensures.turns.1
 
-pub returns-in-Blocked-clause-reaches : goal.returns-in-Blocked-clause-reaches
-returns-in-Blocked-clause-reaches g c = reach-turn g.K.Component.rules g.met.K.Component.lawful c.args.self.now c.args.process c.args.stamp false c.turn.new.self c.requires.next (blocked-turn c.args.self.now c.args.process c.args.stamp c.in-Blocked.field-0 c.turn.new.self c.in-Blocked.ensures.turns)
+pub returns-in-Blocked-clause-len : goal.returns-in-Blocked-clause-len
+returns-in-Blocked-clause-len g c = made-length c.args.self.now c.args.process c.args.stamp false c.turn.new.self (blocked-turn c.args.self.now c.args.process c.args.stamp c.in-Blocked.field-0 c.turn.new.self c.in-Blocked.ensures.turns)
 
-pub returns-in-Over-clause-reaches : goal.returns-in-Over-clause-reaches
-returns-in-Over-clause-reaches g c = reach-turn g.K.Component.rules g.met.K.Component.lawful c.args.self.now c.args.process c.args.stamp false c.turn.new.self c.requires.next (over-turn c.args.self.now c.args.process c.args.stamp c.in-Over.field-0 c.turn.new.self c.in-Over.ensures.turns)
+pub returns-in-Over-clause-len : goal.returns-in-Over-clause-len
+returns-in-Over-clause-len g c = made-length c.args.self.now c.args.process c.args.stamp false c.turn.new.self (over-turn c.args.self.now c.args.process c.args.stamp c.in-Over.field-0 c.turn.new.self c.in-Over.ensures.turns)
