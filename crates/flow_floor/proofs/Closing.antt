@@ -24,7 +24,7 @@ use Rattle.flow_machine.specs.Solo.{GoesBy, reached}
 use Rattle.flow_machine.specs.Thoughts.{IsUnset}
 use Rattle.flow_machine.specs.Joins.{IsPlanned, Joins}
 use Rattle.flow_machine.specs.Quiet.{AllUnset, EndedAreTold, IsQuietNet}
-use Rattle.flow_machine.proofs.FitLemmas.{turns-most}
+use Rattle.flow_machine.proofs.FitLemmas.{all-most}
 use Rattle.flow_machine.proofs.Standings.{get-map}
 use Rattle.flow_machine.proofs.Planning.{body_wires, capacity_of, planned-kept}
 use Rattle.flow_machine.proofs.JoinPieces.{joins-pieces}
@@ -164,7 +164,7 @@ module _ {K : Type 0} (rules : Rules K) (start : NetValue K) where
         total = r.flow.total;
         sizes = r.flow.same;
         bodies = ended.bodies;
-        connections = λ c k there. rests-as ws xs c k (ended.connections c k there) (r.flow.each_connection c k there).so.size (omega (arith, r.flow.fit.puts c k there, r.flow.fit.total, turns-most rules r.beside.now r.flow.fit));
+        connections = λ c k there. rests-as ws xs c k (ended.connections c k there) (r.flow.each_connection c k there).so.size (omega (arith, r.flow.fit.puts c k there, all-most rules r.beside.now r.flow.fit));
         slots = sym deep ∙ r.flow.deep;
         planned = planned-now r.beside.now r.wakes.wired (r.flow.same.0, r.flow.same.1 ∙ length-map start.channels (λ (k : ChannelShown). k.capacity)) r.flow.goes.connections r.planned;
         done = subst (λ (l : List ℕ). AllRetired l r.beside.now.bodies) words r.done;

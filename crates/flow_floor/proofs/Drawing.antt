@@ -13,7 +13,7 @@ use Rattle.flow_packet.specs.Tree.{Tree}
 use Rattle.flow_component.specs.Laws.{Rules, Lawful}
 use Rattle.flow_model.specs.Stands.{ChannelShown}
 use Rattle.flow_machine.specs.Values.{BodyValue, NetValue}
-use Rattle.flow_machine.proofs.FitLemmas.{turns-most}
+use Rattle.flow_machine.proofs.FitLemmas.{all-most}
 use Rattle.flow_ring.specs.Words.{level_in}
 use Rattle.flow_ring.specs.Places.{puts_slot, takes_slot, place_slot}
 use Rattle.flow_floor.specs.Wired.{IsInput}
@@ -61,7 +61,7 @@ module _ {K : Type 0} (rules : Rules K) (lawful : Lawful rules)
 
   -- No more was put than turns were made, and these are few.
   pub puts-most : (s : St K) (r : Rule s) (c : ℕ) (k : ChannelShown) → slice_get r.beside.now.channels c ≡ Some k → k.puts ≤ RUN_LIMIT
-  puts-most s r c k there = let fit = r.flow.fit in omega (arith, fit.puts c k there, fit.total, turns-most rules r.beside.now fit)
+  puts-most s r c k there = let fit = r.flow.fit in omega (arith, fit.puts c k there, all-most rules r.beside.now fit)
 
   may-withdrawn : (c : ℕ) (o : Option Receiving) → MayDraw c o → HasWithdrawn o
   may-withdrawn c None may = tt

@@ -44,7 +44,7 @@ module _ {K : Type 0} (rules : Rules K) (lawful : Lawful rules) where
   rest-fit now p b d there r fit = fit-rest rules lawful now p b d (with_body now p d) there r.0 r.1 refl refl fit
 
   pub rest-count : (now : NetValue K) (p : ℕ) (b d : BodyValue K) → slice_get now.bodies p ≡ Some b → Rests rules b d → turns_made (with_body now p d) ≡ turns_made now
-  rest-count now p b d there r = count-rest rules now p b d (with_body now p d) there r.0 refl
+  rest-count now p b d there r = count-rest now p b d (with_body now p d) there r.1 refl
 
   pub rest-goes : (start now : NetValue K) (log : List Logged) (p : ℕ) (b d : BodyValue K) → slice_get now.bodies p ≡ Some b → Rests rules b d → turns_made now ≡ turns_made start + length log → Going start log now → Going start log (with_body now p d)
   rest-goes start now log p b d there r total goes = record {

@@ -12,10 +12,10 @@ use Rattle.flow_model.specs.Turns.{process_after}
 use Rattle.flow_model.specs.Works.{worked}
 use Rattle.flow_model.specs.Stages.{IsThoughtStage}
 use Rattle.flow_model.specs.Schedules.{Journal, IsClosed, Settles, WorksLead, SettlesAll, LeadsBy}
-use Rattle.flow_model.specs.Plans.{start_of, processes_at_start, process_at_start}
+use Rattle.flow_model.specs.Plans.{start_of}
 use Rattle.flow_plan.specs.Network.{Network as Plan}
 use Rattle.flow_plan.specs.declared.plan.Process.{Process as PlanProcess}
-use Rattle.flow_model.specs.Stands.{BodyShown, StandsForOpen, bodies_from, show_body}
+use Rattle.flow_model.specs.Stands.{StandsForOpen, bodies_from}
 use Rattle.flow_model.specs.Schedules.{Leads}
 use Rattle.flow_model.specs.Robin.{RoundRobin}
 use Rattle.flow_model.specs.Verdicts.{Quiet}
@@ -76,21 +76,12 @@ bodies-count : {K : Type 0} (net : NetValue K) (s : State K) → StandsForOpen (
 bodies-count net s stands =
     sym (length-map net.bodies shown_body) ∙ ap (λ shows. length shows.bodies) stands ∙ length-shown s.past.dropped 0 s.kept.processes
 
--- at the start no turn was made
-none-made : {K : Type 0} (plan : Plan) (dropped : ℕ → List ℕ) (p : ℕ) (xs : List PlanProcess) (components : List K) (bodies : List (BodyValue K))
-    → map shown_body bodies ≡ bodies_from dropped p (processes_at_start plan p xs components) → sum_by (λ b. b.process.turns) bodies ≡ 0
-none-made plan dropped p [] components [] is = refl
-none-made plan dropped p [] components (b ∷ bodies) is = absurd cc
-none-made plan dropped p (x ∷ xs) [] [] is = refl
-none-made plan dropped p (x ∷ xs) [] (b ∷ bodies) is = absurd cc
-none-made plan dropped p (x ∷ xs) (component ∷ components) [] is = absurd cc
-none-made plan dropped p (x ∷ xs) (component ∷ components) (b ∷ bodies) is =
-    let head : shown_body b ≡ show_body dropped p (process_at_start plan p x component) = cc in
-    let tail : map shown_body bodies ≡ bodies_from dropped (p + 1) (processes_at_start plan (p + 1) xs components) = cc in
-    let turns : b.process.turns ≡ 0 = ap (λ (v : BodyShown _). v.process.turns) head in
-    let rest : sum_by (λ b. b.process.turns) bodies ≡ 0 = none-made plan dropped (p + 1) xs components bodies tail in
-    let sum : sum_by (λ b. b.process.turns) (b ∷ bodies) ≡ b.process.turns + sum_by (λ b. b.process.turns) bodies = sum_by-cons (λ b. b.process.turns) b bodies in
-    omega (arith, sum, turns, rest)
+-- where no body remembers a turn, all together remember none
+none-made : {K : Type 0} (bodies : List (BodyValue K)) → ((p : ℕ) (b : BodyValue K) → slice_get bodies p ≡ Some b → (b.stamps ≡ []) × (b.levels ≡ [])) → sum_by (λ b. length b.stamps) bodies ≡ 0
+none-made [] unmade = refl
+none-made {K} (b ∷ bodies) unmade =
+    let rest : sum_by (λ (x : BodyValue K). length x.stamps) bodies ≡ 0 = none-made bodies (λ p x is. unmade (suc p) x is) in
+    omega (arith, sum_by-cons (λ (x : BodyValue K). length x.stamps) b bodies, ap length (unmade 0 b refl).0, rest)
 
 -- a list of the same length has an element at the same place
 same-place : {A B : Type 0} (xs : List A) (ys : List B) (k : ℕ) (y : B) → length xs ≡ length ys → slice_get ys k ≡ Some y → (x : A) × (slice_get xs k ≡ Some x)
@@ -107,7 +98,7 @@ pub all-logged : {K : Type 0} (plan : Plan) (components : List K) (old : NetValu
     → Remembers (turns_made old) old.bodies log new.bodies → turns_made new ≡ turns_made old + length log
     → StandsForOpen (shown_net new) last → length last.kept.processes ≡ length (start_of plan components).kept.processes → IsLogOf log new
 all-logged plan components old log new last begins unmade remembers total stands count =
-    let none : turns_made old ≡ 0 = none-made plan (λ _. []) 0 plan.processes components old.bodies (ap (λ shows. shows.bodies) begins) in
+    let none : turns_made old ≡ 0 = none-made old.bodies unmade in
     record {
       logs = λ p b' there.
           let same : length old.bodies ≡ length new.bodies = bodies-count old (start_of plan components) begins ∙ sym count ∙ sym (bodies-count new last stands) in

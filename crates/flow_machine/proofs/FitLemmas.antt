@@ -36,7 +36,7 @@ use Rattle.flow_machine.specs.declared.answers.Thought.TheVariants as thoughts
 use Rattle.flow_machine.specs.declared.answers.Turn.{Turn as Turning}
 use Rattle.flow_machine.specs.declared.answers.Turn.TheVariants as turns
 use Rattle.flow_machine.specs.declared.answers.Over.TheVariants as overs
-use Rattle.flow_machine.specs.Logs.{Logged, Logs, stamps_of, levels_of, turns_made}
+use Rattle.flow_machine.specs.Logs.{Logged, Logs, stamps_of, levels_of, turns_made, all_turns}
 use Rattle.flow_machine.specs.FitNets.{IsWiredBody, FitNet}
 use Rattle.flow_machine.specs.NetSteps.{GoesByTurn, ThinksNet}
 use Rattle.flow_machine.proofs.Standings.{get-map, process-in, channel-in, happens-in}
@@ -76,6 +76,19 @@ by-place {K} bodies p b b' P there here others q x is = elim (same_or_not q p) [
 -- All turns together change by those of the changed body.
 pub turns-set : {K : Type 0} (bodies : List (BodyValue K)) (p : ℕ) (b b' : BodyValue K) → slice_get bodies p ≡ Some b → sum_by (λ (x : BodyValue K). x.process.turns) (slice_set bodies p b') + b.process.turns ≡ sum_by (λ (x : BodyValue K). x.process.turns) bodies + b'.process.turns
 turns-set {K} bodies p b b' there = sum_by-slice_set (λ (x : BodyValue K). x.process.turns) bodies p b b' there
+
+-- All stamps together change by those of the changed body.
+pub stamps-set : {K : Type 0} (bodies : List (BodyValue K)) (p : ℕ) (b b' : BodyValue K) → slice_get bodies p ≡ Some b → sum_by (λ (x : BodyValue K). length x.stamps) (slice_set bodies p b') + length b.stamps ≡ sum_by (λ (x : BodyValue K). length x.stamps) bodies + length b'.stamps
+stamps-set {K} bodies p b b' there = sum_by-slice_set (λ (x : BodyValue K). length x.stamps) bodies p b b' there
+
+-- Where no body remembers more turns than it made, all together don't.
+pub stamps-most : {K : Type 0} (bodies : List (BodyValue K)) → ((p : ℕ) (b : BodyValue K) → slice_get bodies p ≡ Some b → length b.stamps ≤ b.process.turns)
+    → sum_by (λ (x : BodyValue K). length x.stamps) bodies ≤ sum_by (λ (x : BodyValue K). x.process.turns) bodies
+stamps-most [] each = omega arith
+stamps-most {K} (b ∷ bodies) each =
+    let first : length b.stamps ≤ b.process.turns = each 0 b refl in
+    let rest = stamps-most bodies (λ p x is. each (suc p) x is) in
+    omega (arith, sum_by-cons (λ (x : BodyValue K). length x.stamps) b bodies, sum_by-cons (λ (x : BodyValue K). x.process.turns) b bodies, first, rest)
 
 -- An event keeps the number of connections.
 pub channels-len : (e : Event) (channels : List ChannelShown) → length (all_shown_after e channels) ≡ length channels
@@ -122,6 +135,8 @@ module _ {K : Type 0} (rules : Rules K) where
       let len : length (fit.log ++ one ∷ []) ≡ length fit.log + 1 = omega (arith, length-append fit.log (one ∷ [])) in
       let channels_len : length new.channels ≡ length old.channels = ap length turn.channels ∙ channels-len e old.channels in
       let turns : turn.after.process.turns ≡ b.process.turns + 1 = ap (λ (x : Process K). x.turns) turn.turn.process ∙ turns-after b.process e in
+      let stamps : length turn.after.stamps ≡ length b.stamps + 1 = omega (arith, ap length turn.turn.stamps, length-append b.stamps (stamp ∷ [])) in
+      let all : all_turns new ≡ all_turns old + 1 = omega (arith, turns, ap (λ (bs : List (BodyValue K)). sum_by (λ (x : BodyValue K). x.process.turns) bs) turn.bodies, turns-set old.bodies p b turn.after turn.there) in
       record {
         state = after.0;
         fit = after.2;
@@ -136,7 +151,7 @@ module _ {K : Type 0} (rules : Rules K) where
               (fit.logs q x is).0 ∙ sym (append-nil (stamps_of q 0 fit.log)) ∙ ap (λ (xs : List ℕ). stamps_of q 0 fit.log ++ xs) (sym (stamps-other q p (0 + length fit.log) (seen_by e) other)) ∙ sym (stamps_of-append q 0 fit.log (one ∷ [])),
               (fit.logs q x is).1 ∙ sym (append-nil (levels_of q 0 fit.log)) ∙ ap (λ (xs : List (ℕ × ℕ)). levels_of q 0 fit.log ++ xs) (sym (levels-other q p (0 + length fit.log) (seen_by e) other)) ∙ sym (levels_of-append q 0 fit.log (one ∷ [])),
             )));
-        total = omega (arith, len, fit.total, turns, ap (λ (bs : List (BodyValue K)). sum_by (λ (x : BodyValue K). x.process.turns) bs) turn.bodies, turns-set old.bodies p b turn.after turn.there);
+        total = omega (arith, len, fit.total, stamps, ap (λ (bs : List (BodyValue K)). sum_by (λ (x : BodyValue K). length x.stamps) bs) turn.bodies, stamps-set old.bodies p b turn.after turn.there);
         few = omega (arith, fit.few, ap length turn.bodies, length-set old.bodies p turn.after);
         whole = subst (λ (bs : List (BodyValue K)). (q : ℕ) (x : BodyValue K) → slice_get bs q ≡ Some x → x.leaving ≡ None) (sym turn.bodies) (by-place old.bodies p b turn.after (λ q x. x.leaving ≡ None) turn.there turn.turn.leaving (λ q x other is. fit.whole q x is));
         wired = subst (λ (m : ℕ). (q : ℕ) (x : BodyValue K) → slice_get new.bodies q ≡ Some x → IsWiredBody m x) (sym channels_len)
@@ -144,9 +159,9 @@ module _ {K : Type 0} (rules : Rules K) where
             (by-place old.bodies p b turn.after (λ q x. IsWiredBody (length old.channels) x) turn.there
             (wired-same (length old.channels) b turn.after (ap (λ (x : Process K). x.inputs) turn.turn.process ∙ inputs-after b.process e) (ap (λ (x : Process K). x.outputs) turn.turn.process ∙ outputs-after b.process e) (fit.wired p b turn.there))
             (λ q x other is. fit.wired q x is)));
-        counted = subst (λ (bs : List (BodyValue K)). (q : ℕ) (x : BodyValue K) → slice_get bs q ≡ Some x → length x.stamps ≡ x.process.turns) (sym turn.bodies)
-            (by-place old.bodies p b turn.after (λ q x. length x.stamps ≡ x.process.turns) turn.there (omega (arith, ap length turn.turn.stamps, length-append b.stamps (stamp ∷ []), fit.counted p b turn.there, turns)) (λ q x other is. fit.counted q x is));
-        puts = puts-now e old.channels new.channels (length fit.log) (length (fit.log ++ one ∷ [])) turn.channels len fit.puts;
+        counted = subst (λ (bs : List (BodyValue K)). (q : ℕ) (x : BodyValue K) → slice_get bs q ≡ Some x → length x.stamps ≤ x.process.turns) (sym turn.bodies)
+            (by-place old.bodies p b turn.after (λ q x. length x.stamps ≤ x.process.turns) turn.there (omega (arith, stamps, fit.counted p b turn.there, turns)) (λ q x other is. fit.counted q x is));
+        puts = puts-now e old.channels new.channels (all_turns old) (all_turns new) turn.channels all fit.puts;
       }
     where
       puts-now : (e : Event) (olds news : List ChannelShown) (m k : ℕ) → news ≡ all_shown_after e olds → k ≡ m + 1 → ((c : ℕ) (channel : ChannelShown) → slice_get olds c ≡ Some channel → channel.puts ≤ m)
@@ -189,10 +204,13 @@ module _ {K : Type 0} (rules : Rules K) where
       let rest = turns-few bodies m (λ p x is. each (suc p) x is) in
       omega (arith, sum_by-cons (λ (x : BodyValue K). x.process.turns) b bodies, first, rest)
 
-  pub turns-most : (net : NetValue K) → FitNet rules net → turns_made net ≤ RUN_LIMIT
-  turns-most net fit =
+  pub all-most : (net : NetValue K) → FitNet rules net → all_turns net ≤ RUN_LIMIT
+  all-most net fit =
       let each = turns-few net.bodies TURN_LIMIT (λ p b is. (let good = fit.fit.valid.each p b.process (process-in net fit.state p b fit.stands is) in omega (arith, good.turns, good.limit))) in
       omega (arith, each, fit.few)
+
+  pub turns-most : (net : NetValue K) → FitNet rules net → turns_made net ≤ RUN_LIMIT
+  turns-most net fit = omega (arith, stamps-most net.bodies fit.counted, all-most net fit)
 
   pub get-below : {A : Type 0} (xs : List A) (i : ℕ) (x : A) → slice_get xs i ≡ Some x → i < length xs
   get-below [] i x is = absurd (cc)
@@ -314,15 +332,15 @@ module _ {K : Type 0} (rules : Rules K) (lawful : Lawful rules) where
         logs = subst (λ (bs : List (BodyValue K)). Logs fit.log (net_of bs new.channels)) (sym bodies)
             (by-place old.bodies p b b' (λ q x. (x.stamps ≡ stamps_of q 0 fit.log) × (x.levels ≡ levels_of q 0 fit.log)) there
             (keeps.stamps ∙ (fit.logs p b there).0, keeps.levels ∙ (fit.logs p b there).1) (λ q x other is. fit.logs q x is));
-        total = omega (arith, fit.total, same.0, ap (λ (bs : List (BodyValue K)). sum_by (λ (x : BodyValue K). x.process.turns) bs) bodies, turns-set old.bodies p b b' there);
+        total = omega (arith, fit.total, ap length keeps.stamps, ap (λ (bs : List (BodyValue K)). sum_by (λ (x : BodyValue K). length x.stamps) bs) bodies, stamps-set old.bodies p b b' there);
         few = omega (arith, fit.few, ap length bodies, length-set old.bodies p b');
         whole = subst (λ (bs : List (BodyValue K)). (q : ℕ) (x : BodyValue K) → slice_get bs q ≡ Some x → x.leaving ≡ None) (sym bodies) (by-place old.bodies p b b' (λ q x. x.leaving ≡ None) there (keeps.leaving ∙ fit.whole p b there) (λ q x other is. fit.whole q x is));
         wired = subst (λ (m : ℕ). (q : ℕ) (x : BodyValue K) → slice_get new.bodies q ≡ Some x → IsWiredBody m x) (ap length (sym channels))
             (subst (λ (bs : List (BodyValue K)). (q : ℕ) (x : BodyValue K) → slice_get bs q ≡ Some x → IsWiredBody (length old.channels) x) (sym bodies)
             (by-place old.bodies p b b' (λ q x. IsWiredBody (length old.channels) x) there (wired-same (length old.channels) b b' same.1 same.2 (fit.wired p b there)) (λ q x other is. fit.wired q x is)));
-        counted = subst (λ (bs : List (BodyValue K)). (q : ℕ) (x : BodyValue K) → slice_get bs q ≡ Some x → length x.stamps ≡ x.process.turns) (sym bodies)
-            (by-place old.bodies p b b' (λ q x. length x.stamps ≡ x.process.turns) there (omega (arith, ap length keeps.stamps, fit.counted p b there, same.0)) (λ q x other is. fit.counted q x is));
-        puts = λ c channel is. fit.puts c channel (ap (λ (cs : List ChannelShown). slice_get cs c) (sym channels) ∙ is);
+        counted = subst (λ (bs : List (BodyValue K)). (q : ℕ) (x : BodyValue K) → slice_get bs q ≡ Some x → length x.stamps ≤ x.process.turns) (sym bodies)
+            (by-place old.bodies p b b' (λ q x. length x.stamps ≤ x.process.turns) there (omega (arith, ap length keeps.stamps, fit.counted p b there, same.0)) (λ q x other is. fit.counted q x is));
+        puts = λ c channel is. omega (arith, fit.puts c channel (ap (λ (cs : List ChannelShown). slice_get cs c) (sym channels) ∙ is), same.0, ap (λ (bs : List (BodyValue K)). sum_by (λ (x : BodyValue K). x.process.turns) bs) bodies, turns-set old.bodies p b b' there);
       }
 
   -- a thought keeps what holds of each net

@@ -26,10 +26,6 @@ use Rattle.flow_machine.proofs.JoinSenders.{counted-yes, counted-no, fewer-among
 use Rattle.flow_machine.proofs.Planning.{input-wires, output-wires, unwrapped, processes-of, received_at, received-cases}
 use Rattle.flow_machine.proofs.JoinSums.{sum-mapped}
 
-sum-same : {A : Type 0} (f g : A → ℕ) (xs : List A) → ((i : ℕ) (x : A) → slice_get xs i ≡ Some x → f x ≡ g x) → sum_by f xs ≡ sum_by g xs
-sum-same f g [] same = refl
-sum-same f g (x ∷ xs) same = omega (arith, same 0 x refl, sum-same f g xs (λ i y is. same (suc i) y is), sum_by-cons f x xs, sum_by-cons g x xs)
-
 sum-least : {A : Type 0} (f g : A → ℕ) (xs : List A) → ((i : ℕ) (x : A) → slice_get xs i ≡ Some x → f x ≤ g x) → sum_by f xs ≤ sum_by g xs
 sum-least f g [] less = omega arith
 sum-least f g (x ∷ xs) less = omega (arith, less 0 x refl, sum-least f g xs (λ i y is. less (suc i) y is), sum_by-cons f x xs, sum_by-cons g x xs)
@@ -168,7 +164,7 @@ module _ {K : Type 0} (rules : Rules K) (net : NetValue K) (fit : FitNet rules n
 
   stamps-once : (n : ℕ) → sum_by (λ (b : BodyValue K). times n b.stamps) net.bodies ≡ cond (nat_lt n (turns_made net)) 1 0
   stamps-once n =
-      sum-lengths net.bodies fit.log (λ p b is. (fit.logs p b is).0) (sum-same (λ (b : BodyValue K). length b.stamps) (λ (b : BodyValue K). b.process.turns) net.bodies fit.counted ∙ sym fit.total) n
+      sum-lengths net.bodies fit.log (λ p b is. (fit.logs p b is).0) (sym fit.total) n
       ∙ ap (λ (m : ℕ). cond {A = ℕ} (nat_lt n m) 1 0) fit.total
 
   transit-is : (id : ℕ) → sum_by (λ (k : ChannelShown). times id (all_ids k.packets)) net.channels ≡ transit_count id s.kept.channels
@@ -319,7 +315,7 @@ module _ {K : Type 0} (rules : Rules K) (net : NetValue K) (fit : FitNet rules n
       let deep = sum-least (λ (t : Sender). depth_at t.output (slice_get ps t.process)) (λ (t : Sender). opens (entries_by t (s.past.put c))) y.senders (λ i t h. deep-most c y is t (among-there y.senders i t h)) in
       record {
         within = omega (arith, packets_len, capacity, fit.fit.valid.within c ch r.1);
-        puts = omega (arith, fit.puts c k at, fit.total);
+        puts = fit.puts c k at;
         takes = omega (arith, takes, puts, packets_len, all);
         least_open = omega (arith, opened, least-open c y ch is r.1);
         most_open = omega (arith, opened, most-open c y ch is r.1);

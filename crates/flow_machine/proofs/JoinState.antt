@@ -493,6 +493,6 @@ module _ {K : Type 0} (rules : Rules K) (net : NetValue K) (j : Joins rules net)
           (let x = at-output p o c (ap (output_of o) (get-map (λ (y : BodyValue K). y.process) net.bodies p b is) ∙ at) in
           omega (arith, one_each, get-below net.connections c x.0 x.1));
     };
-    puts = λ c k at. (let x = element-there net.connections c (omega (arith, one_each, get-below net.channels c k at)) in let most = (j.channels c x.0 k x.1 at).puts in omega (arith, most, log-length));
+    puts = λ c k at. (let x = element-there net.connections c (omega (arith, one_each, get-below net.channels c k at)) in (j.channels c x.0 k x.1 at).puts);
     counted = λ p b is. (j.bodies p b is).turns;
   }

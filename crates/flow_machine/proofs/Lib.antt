@@ -27,3 +27,4 @@ pub mod Reaching
 mod StartLemmas
 pub mod Told
 pub mod StepLemmas
+pub mod LetGoLemmas

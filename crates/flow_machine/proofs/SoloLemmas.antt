@@ -31,14 +31,14 @@ use Rattle.flow_machine.specs.declared.answers.Thought.{Thought}
 use Rattle.flow_machine.specs.declared.answers.Thought.TheVariants as thoughts
 use Rattle.flow_machine.specs.Nets.{looks_of, NetTurn, TurnsNet, level_of, HasFailed, levels_told}
 use Rattle.flow_machine.specs.NetSteps.{ThinksNet, IsSetIn}
-use Rattle.flow_machine.specs.Thoughts.{SettlesBody, WorkedBody, SameBody, IsSet}
+use Rattle.flow_machine.specs.Thoughts.{SettlesBody, WorkedBody, SameBody, KeepsTurns, IsSet}
 use Rattle.flow_machine.specs.Logs.{Logged, journal_of, Remembers, stamps_of, levels_of, turns_made}
 use Rattle.flow_machine.specs.Starts.{AllSet}
 use Rattle.flow_machine.specs.Solo.{Goes, HasNoTurnIn, MakesTurn, SettlesNet, StarvesNet, IsFirstUnset, SetBelow, some_works, all_settled}
 use Rattle.flow_machine.proofs.Standings.{process-in, happens-in}
 use Rattle.flow_machine.proofs.NetTurns.{if_some, level-there, set-thought}
 use Rattle.flow_machine.proofs.LogLemmas.{stamps_of-append, levels_of-append, stamps-own, stamps-other, levels-own, levels-other}
-use Rattle.flow_machine.proofs.FitLemmas.{goes-by, goes-same, goes-work, thinks-step, turns-set}
+use Rattle.flow_machine.proofs.FitLemmas.{goes-same, goes-work, stamps-set}
 use Rattle.flow_machine.proofs.Lists.{element-there}
 
 seen-append : (log more : List Logged) → flat_map (λ (t : Logged). t.seen) (log ++ more) ≡ flat_map (λ (t : Logged). t.seen) log ++ flat_map (λ (t : Logged). t.seen) more
@@ -269,24 +269,16 @@ set-in {K} net p set = by (slice_get net.bodies p) refl
 -- A turn counts as one.
 pub turn-count : {K : Type 0} (old : NetValue K) (p k : ℕ) (e : Event) (m : ℕ) (new : NetValue K) → NetTurn old p k e m new → turns_made new ≡ turns_made old + 1
 turn-count {K} old p k e m new turn =
-    let ts : turn.after.process.turns ≡ turn.before.process.turns + 1 = ap (λ (x : Process K). x.turns) turn.turn.process ∙ turns-after turn.before.process e in
-    omega (arith, ts, ap (λ (bs : List (BodyValue K)). sum_by (λ (x : BodyValue K). x.process.turns) bs) turn.bodies, turns-set old.bodies p turn.before turn.after turn.there)
+    let stamps : length turn.after.stamps ≡ length turn.before.stamps + 1 = omega (arith, ap length turn.turn.stamps, length-append turn.before.stamps (m ∷ [])) in
+    omega (arith, stamps, ap (λ (bs : List (BodyValue K)). sum_by (λ (x : BodyValue K). length x.stamps) bs) turn.bodies, stamps-set old.bodies p turn.before turn.after turn.there)
 
-turns-worked : {K : Type 0} (x : Process K) (outcome : Outcome K) → (worked x outcome).turns ≡ x.turns
-turns-worked x (Wishes component held wish) = refl
-turns-worked x (Fails component held cause) = refl
-
--- A body that only thought keeps all turns together as they are.
-pub count-rest : {K : Type 0} (rules : Rules K) (old : NetValue K) (p : ℕ) (b b' : BodyValue K) (new : NetValue K) → slice_get old.bodies p ≡ Some b → SameBody b b' ⊎ WorkedBody rules b b' → new.bodies ≡ slice_set old.bodies p b' → turns_made new ≡ turns_made old
-count-rest {K} rules old p b b' new there step bodies = omega (arith, by step, ap (λ (bs : List (BodyValue K)). sum_by (λ (x : BodyValue K). x.process.turns) bs) bodies, turns-set old.bodies p b b' there)
-  where
-    by : SameBody b b' ⊎ WorkedBody rules b b' → b'.process.turns ≡ b.process.turns
-    by (inl same) = ap (λ (x : Process K). x.turns) same.process
-    by (inr work) = ap (λ (x : Process K). x.turns) work.process ∙ turns-worked b.process work.outcome
+-- A body that only thought keeps the turns that are remembered as many as they are.
+pub count-rest : {K : Type 0} (old : NetValue K) (p : ℕ) (b b' : BodyValue K) (new : NetValue K) → slice_get old.bodies p ≡ Some b → KeepsTurns b b' → new.bodies ≡ slice_set old.bodies p b' → turns_made new ≡ turns_made old
+count-rest {K} old p b b' new there keeps bodies = omega (arith, ap length keeps.stamps, ap (λ (bs : List (BodyValue K)). sum_by (λ (x : BodyValue K). length x.stamps) bs) bodies, stamps-set old.bodies p b b' there)
 
 -- A thought counts as no turn.
 pub think-count : {K : Type 0} (rules : Rules K) (old : NetValue K) (p : ℕ) (t : Thought) (new : NetValue K) → ThinksNet rules old p t new → turns_made new ≡ turns_made old
-think-count rules old p t new think = count-rest rules old p think.before think.after new think.there (thinks-step rules think.before t think.after think.thinks) think.bodies
+think-count rules old p t new think = count-rest old p think.before think.after new think.there think.keeps think.bodies
 
 -- after a thought that found none the process is starved
 pub starves-memory : {K : Type 0} (rules : Rules K) (old : NetValue K) (p : ℕ) (new : NetValue K) → ThinksNet rules old p thoughts.NoMemory new → StarvesNet old p new

@@ -110,9 +110,9 @@ channels-shown : (n : ℕ) (cs : List NetConnection) → map channel_begun cs �
 channels-shown n [] = refl
 channels-shown n (c ∷ cs) = λ i. channel_begun c ∷ channels-shown (n + 1) cs i
 
-turns-none : {K : Type 0} (bodies : List (BodyValue K)) → ((p : ℕ) (b : BodyValue K) → slice_get bodies p ≡ Some b → b.process.turns ≡ 0) → sum_by (λ (b : BodyValue K). b.process.turns) bodies ≡ 0
-turns-none [] none = refl
-turns-none {K} (b ∷ bodies) none = sum_by-cons (λ (x : BodyValue K). x.process.turns) b bodies ∙ omega (arith, none 0 b refl, turns-none bodies (λ p x is. none (suc p) x is))
+stamps-none : {K : Type 0} (bodies : List (BodyValue K)) → ((p : ℕ) (b : BodyValue K) → slice_get bodies p ≡ Some b → b.stamps ≡ []) → sum_by (λ (b : BodyValue K). length b.stamps) bodies ≡ 0
+stamps-none [] none = refl
+stamps-none {K} (b ∷ bodies) none = sum_by-cons (λ (x : BodyValue K). length x.stamps) b bodies ∙ omega (arith, ap length (none 0 b refl), stamps-none bodies (λ p x is. none (suc p) x is))
 
 -- each body is a process of the plan that starts
 record Begun {K : Type 0} (plan : Plan) (p : ℕ) (b : BodyValue K) : Type 0 where
@@ -203,7 +203,7 @@ module _ {K : Type 0} (rules : Rules K) (network : Network) (components : List K
   fit-start well start =
       let plan = network in
       let each = begun plan components bodies well.one_each start in
-      let none = turns-none bodies (λ p b is. ap (λ (x : Process K). x.turns) (each p b is).starts.process) in
+      let none = stamps-none bodies (λ p b is. (each p b is).starts.stamps) in
       record {
         state = start_of plan components;
         fit = Fit-start rules plan components well;
@@ -215,7 +215,7 @@ module _ {K : Type 0} (rules : Rules K) (network : Network) (components : List K
         whole = λ p b is. (each p b is).starts.leaving;
         wired = λ p b is. (let s = each p b is in wired-start network p s.spec s.component b s.starts.process);
         puts = λ c channel is. omega (arith, no-puts network.connections c channel is);
-        counted = λ p b is. (let s = (each p b is).starts in omega (arith, ap length s.stamps, ap (λ (x : Process K). x.turns) s.process));
+        counted = λ p b is. (let s = (each p b is).starts in omega (arith, ap length s.stamps));
       }
 
   pub is-start : StartsWell rules network components → StartsBodies network components bodies → IsNet rules begun_net

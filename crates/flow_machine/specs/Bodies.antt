@@ -39,3 +39,7 @@ pub record HasLeft {K : Type 0} (rules : Rules K) (kind : Kind) (x : Process K) 
 abbrev pub IsBody : {K : Type 0} → Rules K → Process K → Option Kind → Type 0
 IsBody rules x None = StandsWell rules x
 IsBody rules x (Some kind) = HasLeft rules kind x
+
+-- What holds of each body that remembers so many turns: that, and it made as many at least.
+abbrev pub IsKept : {K : Type 0} → Rules K → Process K → Option Kind → ℕ → Type 0
+IsKept rules x leaving count = IsBody rules x leaving × (count ≤ x.turns)

@@ -15,7 +15,7 @@ use Rattle.flow_model.specs.Places.{held_count, made_count, ids_in_hands}
 use Rattle.flow_model.specs.Stands.{ChannelShown}
 use Rattle.flow_model.specs.Valid.{GoodProcess, FitProcess, IsOpenSender, AllDifferent}
 use Rattle.flow_machine.specs.Values.{BodyValue, NetValue}
-use Rattle.flow_machine.specs.Logs.{turns_made}
+use Rattle.flow_machine.specs.Logs.{turns_made, all_turns}
 
 -- The connection at an input of a process that is wired so. Its automatic input has the number of the others.
 abbrev pub input_in : ℕ → Option Wires → Option ℕ
@@ -55,13 +55,13 @@ abbrev pub levels_under : List (ℕ × ℕ) → ℕ → List (ℕ × ℕ)
 levels_under levels stamp = filter (λ (level : ℕ × ℕ). level.0 == stamp) levels
 
 -- A body that is process p: it has that number; its component fits it and is ready, and its wish can be granted; its hands are within their limit; no
--- packet is leaving it; it has as many stamps as turns, in order; and its level numbers are, stamp after stamp, those that it was told.
+-- packet is leaving it; it has no more stamps than turns, in order; and its level numbers are, stamp after stamp, those that it was told.
 pub record IsPiece {K : Type 0} (rules : Rules K) (p : ℕ) (b : BodyValue K) : Type 0 where
   pub good : GoodProcess rules p b.process
   pub fit : FitProcess rules b.process
   pub few : length b.process.held.packets ≤ HANDS_LIMIT
   pub whole : b.leaving ≡ None
-  pub turns : length b.stamps ≡ b.process.turns
+  pub turns : length b.stamps ≤ b.process.turns
   pub rises : Rises b.stamps
   pub levels : b.levels ≡ flat_map (levels_under b.levels) b.stamps
 
@@ -117,14 +117,14 @@ depths_of processes senders = sum_by (λ (s : Sender). depth_at s.output (slice_
 -- deeper than by what was taken and by the open packets that are there.
 pub record IsChannelOf {K : Type 0} (net : NetValue K) (x : Connection) (k : ChannelShown) : Type 0 where
   pub within : length k.packets ≤ k.capacity
-  pub puts : k.puts ≤ turns_made net
+  pub puts : k.puts ≤ all_turns net
   pub takes : k.takes + length k.packets ≡ k.puts
   pub least_open : senders_so closes_later (processes_of net.bodies) x.senders ≤ k.open_senders
   pub most_open : k.open_senders ≤ senders_so leaves_open (processes_of net.bodies) x.senders
   pub depths : depths_of (processes_of net.bodies) x.senders ≤ k.takes + count_by (λ (t : Tree). is_open_kind (kind_of t)) k.packets
 
 -- Pieces that may be joined to a net: they are those of a valid plan; each body is its process, and each channel its connection's; the stamps of all
--- bodies together are the numbers below the number of turns, each once; no id is twice in the hands of all bodies and in all channels, trees
+-- bodies together are the numbers below the number of turns that are remembered, each once; no id is twice in the hands of all bodies and in all channels, trees
 -- followed; each that is there was made; and of the packets that were made as many were dropped as aren't there.
 pub record Joins {K : Type 0} (rules : Rules K) (net : NetValue K) : Type 0 where
   pub planned : IsPlanned net

@@ -20,3 +20,4 @@ pub mod Wires
 pub mod Quiet
 pub mod Stamps
 pub mod Rounds
+pub mod LetGo

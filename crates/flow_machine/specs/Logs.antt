@@ -23,9 +23,13 @@ levels_of p n (turn ∷ log) = if turn.process == p then map (λ (level : ℕ). 
 abbrev pub journal_of : List Logged → Journal
 journal_of log = record { turns = map (λ turn. turn.process) log; seen = flat_map (λ turn. turn.seen) log }
 
--- The turns that were made in a net.
+-- The turns of a net that are remembered: all that were made, or those since the earlier ones were let go.
 abbrev pub turns_made : {K : Type 0} → NetValue K → ℕ
-turns_made net = sum_by (λ b. b.process.turns) net.bodies
+turns_made net = sum_by (λ b. length b.stamps) net.bodies
+
+-- All turns that were made in a net.
+abbrev pub all_turns : {K : Type 0} → NetValue K → ℕ
+all_turns net = sum_by (λ b. b.process.turns) net.bodies
 
 -- Each body remembers its part of these turns, beside what it remembered before them, when n turns had been made.
 abbrev pub Remembers : {K : Type 0} → ℕ → List (BodyValue K) → List Logged → List (BodyValue K) → Type 0

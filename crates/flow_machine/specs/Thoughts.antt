@@ -1,5 +1,5 @@
 -- What a thought does, and the room of a turn.
-use Rattle.std.specs.Prelude.{◌≡◌, ◌⊎◌, ℕ, ◌<◌, true, List, Option, None, slice_get}
+use Rattle.std.specs.Prelude.{◌≡◌, ◌⊎◌, ℕ, ◌+◌, ◌^◌, ◌<◌, true, List, Option, None, slice_get}
 use Rattle.flow_packet.specs.Tree.{Tree}
 use Rattle.flow_packet.specs.Hands.{IsAtRoot}
 use Rattle.flow_component.specs.declared.Answer.{Answer}
@@ -28,12 +28,14 @@ abbrev pub next_text : {K : Type 0} → Process K → Stage → Option (List ℕ
 next_text x (stages.Wishing wish) = text_wished x wish
 next_text x stage = None
 
--- The body has the room of its next turn: a place for a packet, for a stamp and for a level number, and a copy of the initial text that it would receive.
+-- The body has the room of its next turn: a place for a packet, for a stamp and for a level number, and a copy of the initial text that it would receive; and
+-- the turn can be counted.
 pub record HasRoom {K : Type 0} (body : BodyValue K) : Type 0 where
   pub place : 0 < body.places
   pub stamp : 0 < body.stamp_room
   pub level : 0 < body.level_room
   pub copy : body.copy ≡ next_text body.process body.process.stage
+  pub count : body.process.turns + 1 < 2 ^ 64
 
 -- A body at this stage is set: no work is to come, and it has the room of its next turn, or is over and its component was told its end.
 abbrev pub IsSetAt : {K : Type 0} → BodyValue K → Stage → Type 0

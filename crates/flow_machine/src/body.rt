@@ -25,6 +25,7 @@ use std::marker::Model;
 mod begin;
 mod effect;
 mod idle;
+mod let_go;
 mod restamp;
 mod think;
 
@@ -44,9 +45,10 @@ pub struct Body<K: Component> {
     depths: Vec<u64>,
     /// The kind of a packet that has left for its connection, while the turn that sends it isn't over.
     leaving: Option<Kind>,
-    /// How many turns it may make.
+    /// How many turns it made, and how many it may make.
+    turns: u64,
     limit: u64,
-    /// The stamps of its turns, and the level numbers that it was told with their stamps.
+    /// The stamps of its turns since the earlier ones were let go, and the level numbers that it was told with their stamps.
     stamps: Vec<u32>,
     levels: Vec<(u32, u16)>,
     /// A copy of the initial text that its next turn receives.
@@ -61,12 +63,13 @@ impl<K: Component> Model for Body<K> {
 
     ghost coded = { body_code K.code };
 
-    ghost use Rattle.flow_machine.specs.Bodies.{IsBody};
+    ghost use Rattle.std.specs.Prelude.{vec_len};
+    ghost use Rattle.flow_machine.specs.Bodies.{IsKept};
     ghost use Rattle.flow_machine.specs.Views.{process_shown, body_shown};
 
     ghost view = { body_shown K.state_of K.told_end };
 
-    ghost invariant = { λ b. IsBody K.rules (process_shown K.state_of b) b.leaving };
+    ghost invariant = { λ b. IsKept K.rules (process_shown K.state_of b) b.leaving (vec_len b.stamps) };
 }
 
 /// The packet that is to be sent at this stage.
@@ -125,13 +128,20 @@ impl<K: Component> Body<K> {
         &self.hands
     }
 
-    /// The stamps of its turns, in order.
+    /// The stamps of its turns since the earlier ones were let go, in order.
     pub fn turns(&self) -> &[u32]
         ensures stamps { result.now ≡ self.now.stamps }
-        ensures count { length result.now ≡ self.now.process.turns }
+        ensures count { length result.now ≤ self.now.process.turns }
         ensures few { length result.now ≤ TURN_LIMIT }
     {
         &self.stamps
+    }
+
+    /// How many turns it made.
+    pub fn turn_count(&self) -> u64
+        ensures { result ≡ self.now.process.turns }
+    {
+        self.turns
     }
 
     /// The level numbers that it was told, each with the stamp of its turn.
@@ -292,6 +302,7 @@ impl<K: Component> Body<K> {
             signalled: _,
             depths: _,
             leaving: _,
+            turns: _,
             limit: _,
             stamps: _,
             levels: _,

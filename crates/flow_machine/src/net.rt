@@ -1,5 +1,5 @@
 //! A network that runs.
-ghost use Rattle.std.specs.Prelude.{◌≡◌, ◌<◌, ◌≤◌, length, IfSome, None, Some, slice_get, sum_by};
+ghost use Rattle.std.specs.Prelude.{◌≡◌, ◌<◌, ◌≤◌, length, map, IfSome, None, Some, slice_get, sum_by};
 ghost use Rattle.flow_limits.specs.declared.TheConstants.{RUN_LIMIT};
 ghost use Rattle.flow_model.specs.Events.{Event};
 ghost use Rattle.flow_model.specs.Stages.{IsThoughtStage};
@@ -7,6 +7,7 @@ ghost use Rattle.flow_machine.specs.Nets.{level_of, looks_of, block_at, is_askin
 ghost use Rattle.flow_machine.specs.Inlets.{watches_signal};
 ghost use Rattle.flow_machine.specs.NetSteps.{IsSetIn, ThinksNet, GoesByTurn};
 ghost use Rattle.flow_machine.specs.Thoughts.{PassesFirst};
+ghost use Rattle.flow_machine.specs.LetGo.{let_go_body, let_go_net};
 ghost use Rattle.flow_machine.specs.Logs.{turns_made, HasLog};
 
 use self::begin::{discard_bodies, discard_channels};
@@ -52,17 +53,25 @@ impl<K: Component> Model for Net<K> {
     ghost invariant = { λ n. IsNet K.rules (net_with n.connections.items n.bodies.items n.channels.items) };
 }
 
-/// The turns of these processes together.
+/// The turns that these processes remember together.
 fn count_turns<K: Component>(bodies: &[Body<K>]) -> u32
-    requires { sum_by (λ b. b.process.turns) bodies.now ≤ RUN_LIMIT }
-    ensures turns { result ≡ sum_by (λ b. b.process.turns) bodies.now }
-    ensures stamps { result ≡ sum_by (λ b. length b.stamps) bodies.now }
+    requires { sum_by (λ b. length b.stamps) bodies.now ≤ RUN_LIMIT }
+    ensures { result ≡ sum_by (λ b. length b.stamps) bodies.now }
 {
     let mut count = 0;
     for body in bodies {
         count += body.turns().len() as u32;
     }
     count
+}
+
+/// All of these processes let go of what they remember of their turns.
+fn let_go_all<K: Component>(bodies: &mut [Body<K>])
+    ensures { bodies.new ≡ map let_go_body bodies.old }
+{
+    for process in 0..bodies.len() {
+        bodies[process].let_go();
+    }
 }
 
 impl<K: Component> Net<K> {
@@ -162,7 +171,7 @@ impl<K: Component> Net<K> {
         self.bodies[process as usize].watches_signal(&self.channels)
     }
 
-    /// How many turns were made.
+    /// How many turns are remembered: all that were made, or those since the earlier ones were let go.
     pub fn turns_made(&self) -> u32
         ensures turns { result ≡ turns_made self.now }
         ensures few { result ≤ RUN_LIMIT }
@@ -170,6 +179,13 @@ impl<K: Component> Net<K> {
         ensures log { HasLog self.now }
     {
         count_turns(&self.bodies)
+    }
+
+    /// Lets go of what the processes remember of their turns, which stay counted. What is to be told of them has to be read before. Takes no memory.
+    pub fn let_go(&mut self)
+        ensures { self.new ≡ let_go_net self.old }
+    {
+        let_go_all(&mut self.bodies);
     }
 
     /// Gives the run up, and spends all that it holds.

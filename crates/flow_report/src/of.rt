@@ -72,7 +72,7 @@ pub fn totals_of<K: Component>(net: &Net<K>) -> Totals
 fn with_body<K: Component>(totals: &Totals, body: &Body<K>) -> Totals
     ensures { result ≡ with_process totals.now body.now }
 {
-    let turns = body.turns().len() as u64;
+    let turns = body.turn_count();
     let made = u64::from(body.hands().made());
     let dropped = body.hands().dropped();
     Totals {

@@ -31,7 +31,7 @@ pub fn add_process<K: Component>(
         name: name_text(alloc, plan, process)?,
         kind: kind_text(alloc, plan, process)?,
         status: body.status(),
-        turns: body.turns().len() as u64,
+        turns: body.turn_count(),
         made: u64::from(body.hands().made()),
         dropped: body.hands().dropped(),
         left: held as u64,

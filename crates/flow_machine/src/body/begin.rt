@@ -56,6 +56,7 @@ impl<K: Component> Body<K> {
             signalled: false,
             depths,
             leaving: None,
+            turns: 0,
             limit: TURN_LIMIT as u64,
             stamps: Vec::new(alloc),
             levels: Vec::new(alloc),

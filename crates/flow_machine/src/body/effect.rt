@@ -125,12 +125,15 @@ fn use_up(fresh: &mut [bool], port: Port)
     }
 }
 
-/// Adds a stamp where there is room for it.
-fn add_stamp(stamps: &mut Vec<u32>, stamp: u32)
-    requires { vec_len stamps.old < vec_capacity stamps.old }
+/// One turn more was made, with this stamp, for which there is room.
+fn add_turn(turns: &mut u64, stamps: &mut Vec<u32>, stamp: u32)
+    requires room { vec_len stamps.old < vec_capacity stamps.old }
+    requires count { turns.old + 1 < 2 ^ 64 }
+    ensures turns { turns.new ≡ turns.old + 1 }
     ensures items { stamps.new.items ≡ stamps.old.items ++ stamp ∷ [] }
     ensures len { vec_len stamps.new ≡ vec_len stamps.old + 1 }
 {
+    *turns += 1;
     stamps.push_reserved(stamp);
 }
 
@@ -170,11 +173,11 @@ impl<K: Component> Body<K> {
         ensures { TakesTurn self.old Effect.Start stamp self.new }
     {
         freshen(&mut self.fresh, &self.inlets);
-        add_stamp(&mut self.stamps, stamp);
+        add_turn(&mut self.turns, &mut self.stamps, stamp);
         enter(
             &mut self.stage,
             self.limit,
-            self.stamps.len() as u64,
+            self.turns,
             Stage::Told(Answer::Start),
         );
     }
@@ -184,9 +187,9 @@ impl<K: Component> Body<K> {
         requires effect { IsEffectFor self.old.process self.old.leaving Effect.ToClosing }
         ensures { TakesTurn self.old Effect.ToClosing stamp self.new }
     {
-        add_stamp(&mut self.stamps, stamp);
+        add_turn(&mut self.turns, &mut self.stamps, stamp);
         let stage = closing_stage(&self.outputs, 0);
-        enter(&mut self.stage, self.limit, self.stamps.len() as u64, stage);
+        enter(&mut self.stage, self.limit, self.turns, stage);
     }
 
     #[inline(always)]
@@ -196,11 +199,11 @@ impl<K: Component> Body<K> {
         ensures { TakesTurn self.old (Effect.Got packet) stamp self.new }
     {
         let id = take_in(&mut self.hands, packet);
-        add_stamp(&mut self.stamps, stamp);
+        add_turn(&mut self.turns, &mut self.stamps, stamp);
         enter(
             &mut self.stage,
             self.limit,
-            self.stamps.len() as u64,
+            self.turns,
             Stage::Told(Answer::Got(id)),
         );
     }
@@ -210,8 +213,13 @@ impl<K: Component> Body<K> {
         requires effect { IsEffectFor self.old.process self.old.leaving Effect.End }
         ensures { TakesTurn self.old Effect.End stamp self.new }
     {
-        add_stamp(&mut self.stamps, stamp);
-        enter(&mut self.stage, self.limit, self.stamps.len() as u64, Stage::Told(Answer::End));
+        add_turn(&mut self.turns, &mut self.stamps, stamp);
+        enter(
+            &mut self.stage,
+            self.limit,
+            self.turns,
+            Stage::Told(Answer::End),
+        );
     }
 
     #[cold]
@@ -226,17 +234,22 @@ impl<K: Component> Body<K> {
             Some(text) => {
                 let id = self.hands.make_normal(text);
                 use_up(&mut self.fresh, port);
-                add_stamp(&mut self.stamps, stamp);
+                add_turn(&mut self.turns, &mut self.stamps, stamp);
                 enter(
                     &mut self.stage,
                     self.limit,
-            self.stamps.len() as u64,
+                    self.turns,
                     Stage::Told(Answer::Got(id)),
                 );
             }
             None => {
-                add_stamp(&mut self.stamps, stamp);
-                enter(&mut self.stage, self.limit, self.stamps.len() as u64, Stage::Told(Answer::End));
+                add_turn(&mut self.turns, &mut self.stamps, stamp);
+                enter(
+                    &mut self.stage,
+                    self.limit,
+                    self.turns,
+                    Stage::Told(Answer::End),
+                );
             }
         }
     }
@@ -257,11 +270,11 @@ impl<K: Component> Body<K> {
         let port = wished_port(self.stage);
         let kind = self.hands.kind(id);
         deepen(&mut self.depths, port, Some(kind));
-        add_stamp(&mut self.stamps, stamp);
+        add_turn(&mut self.turns, &mut self.stamps, stamp);
         enter(
             &mut self.stage,
             self.limit,
-            self.stamps.len() as u64,
+            self.turns,
             Stage::Told(Answer::Sent),
         );
         self.hands.take(id)
@@ -275,11 +288,11 @@ impl<K: Component> Body<K> {
         let port = wished_port(self.stage);
         deepen(&mut self.depths, port, self.leaving);
         self.leaving = None;
-        add_stamp(&mut self.stamps, stamp);
+        add_turn(&mut self.turns, &mut self.stamps, stamp);
         enter(
             &mut self.stage,
             self.limit,
-            self.stamps.len() as u64,
+            self.turns,
             Stage::Told(Answer::Sent),
         );
     }
@@ -292,11 +305,11 @@ impl<K: Component> Body<K> {
         ensures { TakesTurn self.old (Effect.Level level) stamp self.new }
     {
         add_level(&mut self.levels, stamp, level as u16);
-        add_stamp(&mut self.stamps, stamp);
+        add_turn(&mut self.turns, &mut self.stamps, stamp);
         enter(
             &mut self.stage,
             self.limit,
-            self.stamps.len() as u64,
+            self.turns,
             Stage::Told(Answer::Level(level)),
         );
     }
@@ -309,8 +322,8 @@ impl<K: Component> Body<K> {
         ensures { TakesTurn self.old Effect.Deactivate stamp self.new }
     {
         self.has_run = true;
-        add_stamp(&mut self.stamps, stamp);
-        enter(&mut self.stage, self.limit, self.stamps.len() as u64, Stage::Idle);
+        add_turn(&mut self.turns, &mut self.stamps, stamp);
+        enter(&mut self.stage, self.limit, self.turns, Stage::Idle);
     }
 
     #[cold]
@@ -322,8 +335,8 @@ impl<K: Component> Body<K> {
     {
         self.hands.swallow(packet);
         self.signalled = true;
-        add_stamp(&mut self.stamps, stamp);
-        enter(&mut self.stage, self.limit, self.stamps.len() as u64, Stage::Idle);
+        add_turn(&mut self.turns, &mut self.stamps, stamp);
+        enter(&mut self.stage, self.limit, self.turns, Stage::Idle);
     }
 
     #[cold]
@@ -333,12 +346,12 @@ impl<K: Component> Body<K> {
         requires effect { IsEffectFor self.old.process self.old.leaving Effect.Closed }
         ensures { TakesTurn self.old Effect.Closed stamp self.new }
     {
-        add_stamp(&mut self.stamps, stamp);
+        add_turn(&mut self.turns, &mut self.stamps, stamp);
         let stage = self.stage;
         let Stage::Closing(place) = stage else {
             unreachable!()
         };
         let next = closing_stage(&self.outputs, place + 1);
-        enter(&mut self.stage, self.limit, self.stamps.len() as u64, next);
+        enter(&mut self.stage, self.limit, self.turns, next);
     }
 }

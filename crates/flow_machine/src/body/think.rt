@@ -85,7 +85,7 @@ impl<K: Component> Body<K> {
         let Stage::Told(answer) = stage else {
             return self.prepare();
         };
-        gate.pass(self.hands.maker(), self.stamps.len() as u64);
+        gate.pass(self.hands.maker(), self.turns);
         match self.work(answer) {
             Ok(Some(wish)) => self.ready(wish),
             Ok(None) => self.prepare(),

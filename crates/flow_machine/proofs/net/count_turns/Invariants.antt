@@ -4,5 +4,4 @@ use Rattle.flow_machine.specs.Values.{BodyValue}
 use Rattle.flow_machine.proofs.net.count_turns.Given as goal
 
 abbrev pub invariant-loop-body : goal.invariant-loop-body
-invariant-loop-body g l = (l.count ≡ sum_by (λ (b : BodyValue _). b.process.turns) (take l.body-index l.bodies))
-    × (l.count ≡ sum_by (λ (b : BodyValue _). length b.stamps) (take l.body-index l.bodies))
+invariant-loop-body g l = l.count ≡ sum_by (λ (b : BodyValue _). length b.stamps) (take l.body-index l.bodies)

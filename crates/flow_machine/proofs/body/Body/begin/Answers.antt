@@ -60,7 +60,7 @@ invariant_of-body g c =
     let fresh = c.in_ok-fresh.ensures.items_if_clones_equal (λ y e. e) ∙ ap (λ n. replicate n false) own in
     let depths = c.in_ok-depths.ensures.items_if_clones_equal (λ y e. e) ∙ ap (λ n. replicate (n + 1) 0) c.places.ensures.is in
     let few : x.outputs + 1 < 2 ^ 32 = omega (arith, c.fits.ensures.0 c.if-not-fits.false, ap (λ (r : List (Option ℕ)). length r) sent, length-map-range_with_len (sends_at c.args.plan.now c.args.process) 0 (x.outputs + 1)) in
-    rw (inputs, outputs, fresh, depths, signal, c.new.ensures, c.new-2.ensures.len) (c.requires.well x there few)
+    (rw (inputs, outputs, fresh, depths, signal, c.new.ensures) (c.requires.well x there few), omega (arith, c.new-2.ensures.len))
 
 pub returns-in-Wishing : goal.returns-in-Wishing
 returns-in-Wishing g c = λ x' there'.
@@ -84,7 +84,7 @@ returns-in-Wishing g c = λ x' there'.
     let prepared = c.in-Wishing.ensures.prepares in
     let keeps = c.in-Wishing.ensures.keeps in
     let starts : StartsBody (process_at_start c.args.plan.now c.args.process x (g.K.Component.state_of c.args.component)) c.prepare.new.self = record {
-      process = rw prepared.0.process (rw (inputs, outputs, fresh, depths, signal, c.new.ensures, c.new-2.ensures.len) refl);
+      process = rw prepared.0.process (rw (inputs, outputs, fresh, depths, signal, c.new.ensures) refl);
       dropped = rw prepared.0.dropped (rw c.new.ensures refl);
       leaving = keeps.leaving;
       stamps = rw keeps.stamps c.new-2.ensures.items;

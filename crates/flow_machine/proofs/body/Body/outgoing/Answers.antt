@@ -12,18 +12,20 @@ pub invariant_of-self : goal.invariant_of-self
 invariant_of-self g c =
     let x : Process g.row.K.Denot = process_shown g.K.Component.state_of c.self.inside in
     let none : c.self.inside.leaving ≡ None = ap (λ (b : BodyValue g.row.K.Denot). b.leaving) c.self.view_is ∙ c.requires.whole in
-    let well : StandsWell g.K.Component.rules x = subst (IsBody g.K.Component.rules x) none c.self.invariant in
+    let well : StandsWell g.K.Component.rules x = subst (IsBody g.K.Component.rules x) none c.self.invariant.0 in
     let wished : x.stage ≡ stages.Wishing (Send c.requires.sends.0 c.requires.sends.1) = ap (λ (b : BodyValue g.row.K.Denot). b.process.stage) c.self.view_is ∙ c.requires.sends.2 in
     let id : Some c.in-Some.id ≡ Some c.requires.sends.1 = c.in-Some.ensures ∙ ap id_sent wished in
-    let same : c.in-Some.id ≡ c.requires.sends.1 = cc in
-    record {
-      before = x;
-      port = c.requires.sends.0;
-      packet = c.take-packet.result;
-      id = c.in-Some.id;
-      stood = well;
-      wished = wished ∙ ap (λ (n : ℕ). stages.Wishing (Send c.requires.sends.0 n)) (sym same);
-      found = c.take-packet.ensures.taken;
-      is_kind = sym c.kind.ensures;
-      is = rw c.take-packet.ensures.rest refl;
-    }
+    let same : c.in-Some.id ≡ c.requires.sends.1 = cc in (
+      record {
+        before = x;
+        port = c.requires.sends.0;
+        packet = c.take-packet.result;
+        id = c.in-Some.id;
+        stood = well;
+        wished = wished ∙ ap (λ (n : ℕ). stages.Wishing (Send c.requires.sends.0 n)) (sym same);
+        found = c.take-packet.ensures.taken;
+        is_kind = sym c.kind.ensures;
+        is = rw c.take-packet.ensures.rest refl;
+      },
+      c.self.invariant.1,
+    )

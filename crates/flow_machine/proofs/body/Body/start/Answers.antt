@@ -19,9 +19,9 @@ returns g c =
     let fresh : (with_items c.self.inside.fresh c.freshen.new.fresh).items ≡ map (λ (input : Input). not (is_connected input)) (map input_shown c.self.inside.inlets.items) =
     with_items_is c.self.inside.fresh c.freshen.new.fresh (search rules) ∙ c.freshen.ensures ∙ ap (map is_text) c.deref.ensures.value ∙ texts-shown c.self.inside.inlets.items in
     rw (← c.self.view_is) (record {
-      process = rw (c.enter.ensures, c.len.ensures, c.add_stamp.ensures.len, fresh) refl;
+      process = rw (c.enter.ensures, c.add_turn.ensures.turns, fresh) refl;
       dropped = refl;
       leaving = none;
-      stamps = c.add_stamp.ensures.items;
+      stamps = c.add_turn.ensures.items;
       levels = sym (append-nil c.self.inside.levels.items);
     })

@@ -7,7 +7,7 @@ use Rattle.flow_machine.specs.declared.answers.Case.TheVariants as cases
 use Rattle.flow_machine.specs.declared.answers.Turn.TheVariants as turns
 use Rattle.flow_machine.proofs.AtCases.{at-place, thought-at, room-at, received-net, sent-net, learned-net, level-is, woken-net, texted-net, slept-net, closed-net}
 use Rattle.flow_machine.proofs.NetTurns.{over-net, set-same}
-use Rattle.flow_machine.proofs.FitLemmas.{sound-got, sender-open, turns-most, level-fits}
+use Rattle.flow_machine.proofs.FitLemmas.{sound-got, sender-open, all-most, level-fits}
 use Rattle.flow_machine.proofs.net.turns.turn_of.Goals as goal
 
 pub case-requires-clause-whole : goal.case-requires-clause-whole
@@ -112,7 +112,7 @@ send-requires-clause-counted g c =
     let at = at-place g.K.Component.rules c.args.bodies.now c.args.channels.now c.args.process (cases.Send c.in-Send.connection c.in-Send.port) c.index-bodies-process.result c.requires.fit c.requires.in_range c.in-Send.ensures in
     let ch : ChannelShown = get_or c.args.channels.now c.in-Send.connection c.index-channels-connection-in-Send.result in
     let at_c : slice_get c.args.channels.now c.in-Send.connection ≡ Some ch = slice_get-get_or _ _ _ ((c.requires.fit.wired c.args.process (get_or c.args.bodies.now c.args.process c.index-bodies-process.result) at.there).outputs c.in-Send.port.0 c.in-Send.connection at.is.2) in
-    omega (arith, c.requires.fit.puts c.in-Send.connection ch at_c, c.requires.fit.total, turns-most g.K.Component.rules (net_of c.args.bodies.now c.args.channels.now) c.requires.fit)
+    omega (arith, c.requires.fit.puts c.in-Send.connection ch at_c, all-most g.K.Component.rules (net_of c.args.bodies.now c.args.channels.now) c.requires.fit)
 
 pub returns-in-Send : goal.returns-in-Send
 returns-in-Send g c =
