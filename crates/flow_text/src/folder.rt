@@ -59,6 +59,22 @@ impl Folder {
         Ok(())
     }
 
+    /// Makes a name hold these bytes.
+    pub fn put(&mut self, alloc: Global, name: &str, bytes: Vec<u8>) -> Result<(), AllocError>
+        ensures state { OnOk result (self.new ≡ record self.old { files = self.new.files }) }
+        ensures held { OnOk result (held self.new.files ≡ replaced name.now bytes.items (held self.old.files)) }
+        ensures err { OnErr result (self.new ≡ self.old) }
+    {
+        match place_of(&self.files, name) {
+            None => {
+                let name = String::from_str(alloc, name)?;
+                self.files.push((name, bytes))?;
+            }
+            Some(place) => self.files[place].1 = bytes,
+        }
+        Ok(())
+    }
+
     /// How many bytes the created file can still take.
     pub fn room_left(&self) -> usize
         ensures { result ≡ room_left self.now.created (held self.now.files) self.now.room }

@@ -1,6 +1,8 @@
 //! The files that a shelf opened or created, in order, and what each of them gave or took.
 ghost use Rattle.std.specs.Prelude.{◌≡◌, List, ◌∷◌, ◌++◌, [], OnOk, OnErr};
+ghost use Rattle.std.specs.Prelude.{◌<◌, length, Some};
 ghost use Rattle.flow_text.specs.Edge.{Logged, begun, last_moved, meets_end};
+ghost use Rattle.flow_text.specs.Feeds.{moved_at, name_of};
 
 use crate::history::History;
 use std::alloc::{AllocError, Global};
@@ -72,6 +74,24 @@ impl Log {
             return;
         }
         let file = &mut self.files[count - 1];
+        file.given = file.given.and(bytes);
+        file.ended = file.ended || ended;
+    }
+
+    /// The name of the file at this place.
+    pub fn name(&self, place: usize) -> &str
+        requires { place < length self.now }
+        ensures { name_of place self.now ≡ Some result.now }
+    {
+        self.files[place].name.as_str()
+    }
+
+    /// The file at this place gave or took these bytes more, and may be at its end.
+    pub fn advance_at(&mut self, place: usize, bytes: &[u8], ended: bool)
+        requires { place < length self.old }
+        ensures { self.new ≡ moved_at place bytes.now ended self.old }
+    {
+        let file = &mut self.files[place];
         file.given = file.given.and(bytes);
         file.ended = file.ended || ended;
     }
