@@ -1,6 +1,6 @@
 //! How deep a stream is nested.
 
-ghost use Rattle.std.specs.Prelude.{◌≡◌, ◌<◌, ◌^◌, ◌↔◌, false};
+ghost use Rattle.std.specs.Prelude.{◌≡◌, ◌+◌, ◌<◌, ◌^◌, ◌↔◌, false};
 ghost use Rattle.flow_bracket.specs.Depth.{depth_after};
 
 use flow_packet::Kind;
@@ -10,7 +10,7 @@ use std::marker::Model;
 /// clauses it is this number.
 #[derive(Clone, Copy, PartialEq, Eq, Debug)]
 pub struct Depth {
-    value: u32,
+    value: u64,
 }
 
 impl Model for Depth {
@@ -32,7 +32,7 @@ impl Depth {
     }
 
     /// How many substreams are open.
-    pub fn value(&self) -> u32
+    pub fn value(&self) -> u64
         ensures { result ≡ self.now }
     {
         self.value
@@ -40,7 +40,7 @@ impl Depth {
 
     /// Lets a packet of this kind go by. It is false for a Close packet where no substream is open.
     pub fn send(&mut self, kind: Kind) -> bool
-        requires { self.old < 4294967295 }
+        requires { self.old + 1 < 2 ^ 64 }
         ensures refused { (result ≡ false) ↔ ((kind ≡ Kind.Close) × (self.old ≡ 0)) }
         ensures after { self.new ≡ depth_after self.old kind }
     {

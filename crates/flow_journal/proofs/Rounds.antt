@@ -27,7 +27,8 @@ use Rattle.flow_model.proofs.Fits.{Fit-start}
 use Rattle.flow_machine.specs.Logs.{journal_of}
 use Rattle.flow_journal.specs.Journals.{NamesTurns, NamesSeen}
 use Rattle.flow_machine.specs.Starts.{StartsNet}
-use Rattle.flow_journal.specs.Runs.{ComesOfRun, ReachesAreRuns, RoundsAreRuns}
+use Rattle.flow_journal.specs.Replays.{schedule_of, StopsAreNoSchedules}
+use Rattle.flow_journal.specs.Runs.{ComesOfRun, ReachesAreRuns, ReachesAreScheduled, RoundsAreRuns, StopsAreFromTheStart, StretchesGoAgain}
 use Rattle.flow_machine.specs.Values.{BodyValue, NetValue, shown_net, shown_body}
 use Rattle.flow_machine.specs.Logs.{Logged, IsLogOf, Remembers, stamps_of, levels_of, turns_made}
 
@@ -186,3 +187,31 @@ module _ {K : Type 0} (rules : Rules K) where
       let made : Leads rules (start_of plan components) (steps_journal steps) last = turns_are (start_of plan components) steps last last (start-closed plan components) states.1.2 done in
       let schedule : Leads rules (start_of plan components) (journal_of log) last = subst (λ j. Leads rules (start_of plan components) j last) (sym states.1.1) made in
       comes-of-run keeps workers plan components start net log turns seen last well begins by.remembers reaches.goes.1 schedule quiet (λ none. absurd (omega (arith, none, some_workers))) states.2 states.3 names_turns names_seen
+
+  pub reach-is-scheduled : KeepsPrefixes rules → TurnsAreSchedule rules → ReachesAreScheduled rules
+  reach-is-scheduled keeps turns_are plan components start net turns seen well begins reaches names_turns names_seen =
+      let log = reaches.goes.0 in
+      let by = reaches.goes.2 in
+      let states = by.states (start_of plan components) (Fit-start rules plan components well) begins.stands in
+      let now = states.0 in
+      let steps = states.1.0 in
+      let count : length now.kept.processes ≡ length (start_of plan components).kept.processes = sym (bodies-count net now states.3) ∙ reaches.len ∙ bodies-count start (start_of plan components) begins.stands in
+      let logged : IsLogOf log net = all-logged plan components start log net now begins.stands begins.unmade by.remembers reaches.goes.1 states.3 count in
+      let turns_same : turns ≡ (journal_of log).turns = names_turns log logged in
+      let seen_same : seen ≡ (journal_of log).seen = names_seen log logged in
+      let journal : Journal = record { turns = turns; seen = seen } in
+      let same : journal_of log ≡ journal = rw (turns_same, seen_same) refl in
+      record {
+        now = now;
+        stands = states.3;
+        fit = states.2;
+        count = count ∙ start-count plan 0 plan.processes components (sym well.one_each);
+        schedule = λ last settles.
+            let made : Leads rules (start_of plan components) (steps_journal steps) last = turns_are (start_of plan components) steps now last (start-closed plan components) states.1.2 settles in
+            let whole : Leads rules (start_of plan components) journal last = subst (λ j. Leads rules (start_of plan components) j last) (sym states.1.1 ∙ same) made in
+            record { leads = whole; prefixes = λ front mid prefix. keeps plan components journal front last mid well prefix };
+      }
+
+  pub stretch-goes-again : StopsAreNoSchedules rules → StopsAreFromTheStart rules → StretchesGoAgain rules
+  stretch-goes-again none from plan components start net journal last place p refusal one well begins stretch settles stops =
+      none one (start_of plan components) (schedule_of journal) place p refusal last (from plan components start journal place p refusal well begins stops) (stretch.schedule last settles).leads

@@ -1,8 +1,8 @@
 -- A run: its journal, and the state to which that leads.
 use Rattle.std.specs.Prelude.{◌≡◌, ℕ, ◌<◌, ◌≤◌, List, length}
-use Rattle.flow_component.specs.Laws.{Rules}
+use Rattle.flow_component.specs.Laws.{Rules, AtMostOneOutcome}
 use Rattle.flow_model.specs.States.{State}
-use Rattle.flow_model.specs.Schedules.{Journal, Leads, Prefix}
+use Rattle.flow_model.specs.Schedules.{Journal, Leads, Prefix, SettlesAll}
 use Rattle.flow_model.specs.Robin.{RoundRobin}
 use Rattle.flow_model.specs.Verdicts.{Quiet}
 use Rattle.flow_model.specs.Places.{OnePlace}
@@ -77,6 +77,39 @@ pub record ComesOfSchedule {K : Type 0} (rules : Rules K) (plan : Plan) (compone
   pub stands : StandsForOpen (shown_net net) last
   pub fit : Fit rules last
   pub count : length last.kept.processes ≡ length plan.processes
+
+-- The net has come out of turns amid a run: it stands for a state in which each component still fits its process, and with the works done that are still to
+-- come there, whatever comes of them, the journal is a schedule from the start of the plan that leads to what stands then. (That state needn't be quiet.)
+pub record ComesOfStretch {K : Type 0} (rules : Rules K) (plan : Plan) (components : List K) (journal : Journal) (net : NetValue K) : Type 0 where
+  pub now : State K
+  pub stands : StandsForOpen (shown_net net) now
+  pub fit : Fit rules now
+  pub count : length now.kept.processes ≡ length plan.processes
+  pub schedule : (last : State K) → SettlesAll rules now last → IsScheduled rules plan components journal last
+
+-- A net that started from a plan, and went on by turns and works in some order, has come out of such turns, and its turns and numbers are their journal.
+abbrev pub ReachesAreScheduled : {K : Type 0} → Rules K → Type 0
+ReachesAreScheduled {K} rules =
+    (plan : Plan) (components : List K) (start net : NetValue K) (turns seen : List ℕ)
+    → StartsWell rules plan components
+    → StartsNet plan components start
+    → ReachesNet rules start net
+    → NamesTurns net turns
+    → NamesSeen net seen
+    → ComesOfStretch rules plan components (record { turns = turns; seen = seen }) net
+
+-- Where components come to one outcome, and the works that are still to come in such a net come to some, no replay of its journal that starts from the
+-- plan stops at a turn.
+abbrev pub StretchesGoAgain : {K : Type 0} → Rules K → Type 0
+StretchesGoAgain {K} rules =
+    (plan : Plan) (components : List K) (start net : NetValue K) (journal : ProgramJournal) (last : State K) (place p : ℕ) (refusal : Refusal)
+    → AtMostOneOutcome rules
+    → StartsWell rules plan components
+    → StartsNet plan components start
+    → (stretch : ComesOfStretch rules plan components (schedule_of journal) net)
+    → SettlesAll rules stretch.now last
+    → StopsFrom rules start journal (NoTurn place p refusal)
+    → ⊥
 
 -- A net that started from a plan and made the turns of a journal again has come out of a schedule, and the schedule is this journal.
 abbrev pub ReplaysAreScheduled : {K : Type 0} → Rules K → Type 0

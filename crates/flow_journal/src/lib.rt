@@ -24,4 +24,5 @@ pub use refusal::{Refusal, ReplayStop};
 pub use runs::{
     a_replay_of_a_net_is_scheduled, a_round_of_a_net_is_a_run,
     a_schedule_sees_no_more_than_its_turns, what_workers_reach_is_a_run,
+    what_workers_reach_is_scheduled,
 };

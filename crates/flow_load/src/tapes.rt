@@ -9,7 +9,7 @@ use crate::stop::{Stop, TapesRefusal, read_stop};
 use flow_offer::own_kind;
 use flow_own::Tape;
 use flow_plan::{KindSpec, Plan};
-use flow_tape::{TAPE_FILE_LIMIT, TapeStop, from_bytes};
+use flow_tape::{TAPE_FILE_LIMIT, TapeStop, from_vec};
 use flow_text::Shelf;
 use std::alloc::Global;
 
@@ -28,7 +28,7 @@ pub fn read_tapes<F: Shelf>(
         Ok(bytes) => bytes,
         Err(stop) => return Err(read_stop(alloc, stop, name)),
     };
-    match from_bytes(alloc, &bytes) {
+    match from_vec(alloc, bytes) {
         Ok(tapes) => Ok(tapes),
         Err(TapeStop::Fault(fault)) => Err(Stop::TapesRefused(TapesRefusal::Byte(fault.place))),
         Err(TapeStop::NoMemory) => Err(Stop::NoMemory),

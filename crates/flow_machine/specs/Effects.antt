@@ -43,7 +43,7 @@ depths_sent depths port None = depths
 
 -- A packet of this kind, if there is one, may be sent there: the port is there, and the packet nests.
 abbrev pub CanDeepen : List ℕ → ℕ → Option Kind → Type 0
-CanDeepen depths port (Some kind) = (port < length depths) × (slice_index depths port + 1 < 2 ^ 32) × IsTrue (nests kind (slice_index depths port))
+CanDeepen depths port (Some kind) = (port < length depths) × (slice_index depths port + 1 < 2 ^ 64) × IsTrue (nests kind (slice_index depths port))
 CanDeepen depths port None = Unit {0}
 
 -- The process after its turn, where the packet that it sends, if any, has left its hands already: what the turns of the machine do to it. A

@@ -41,7 +41,7 @@ pub struct Body<K: Component> {
     /// The connection at its automatic input, and whether a packet came there.
     signal: Option<u32>,
     signalled: bool,
-    depths: Vec<u32>,
+    depths: Vec<u64>,
     /// The kind of a packet that has left for its connection, while the turn that sends it isn't over.
     leaving: Option<Kind>,
     /// The stamps of its turns, and the level numbers that it was told with their stamps.

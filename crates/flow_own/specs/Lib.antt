@@ -9,3 +9,5 @@ pub mod TapesLaws
 pub mod Lefts
 pub mod Mixed
 pub mod MixedLaws
+pub mod Reading
+pub mod Reels

@@ -6,18 +6,25 @@
 
 mod acts;
 mod desk;
+mod fields;
 mod mixed;
 mod own;
 mod part;
 mod play;
+mod read;
+mod reel;
 mod sorted;
 mod tape;
 mod unmixed;
+mod unread;
 
 pub use desk::{Desk, DeskStop};
+pub use fields::four_of;
 pub use mixed::{Mix, Mixed};
 pub use own::Own;
 pub use part::{Part, PartStop};
+pub use reel::Reel;
 pub use sorted::{Sorted, sorted_out};
 pub use tape::{End, Entry, Tape};
 pub use unmixed::Unmixed;
+pub use unread::Unread;

@@ -149,7 +149,7 @@ fn can_play(
 
 /// Plays the entry at a place of the tape, and tells how it ends. Where it can't be played, or there is no memory, the hands are as before.
 pub(crate) fn play(
-    tape: &Tape,
+    tape: &mut Tape,
     place: usize,
     shape: Shape,
     used: &[u32],
@@ -157,20 +157,23 @@ pub(crate) fn play(
     answer: &Answer,
 ) -> Result<End, Stop>
     requires { hands.old.made < 4294967295 }
-    ensures plays { Plays shape used.now (slice_get tape.now place) hands.old hands.new answer.now result }
+    ensures plays { Plays shape used.now (slice_get tape.old place) hands.old hands.new answer.now result }
+    ensures same { tape.new ≡ tape.old }
     ensures fits { OnOk result (place + 1 < 2 ^ 64) }
 {
     let alloc = *tape.entries.allocator();
-    let Some(entry) = tape.entry(place) else {
-        return Err(Stop::Fail(Fail::Own(OwnFail::Differs)));
+    let entry = match tape.entry(place) {
+        Ok(Some(entry)) => entry,
+        Ok(None) => return Err(Stop::Fail(Fail::Own(OwnFail::Differs))),
+        Err(_) => return Err(Stop::NoMemory),
     };
-    let Ok(can) = can_play(alloc, shape, used, hands, answer, entry) else {
+    let Ok(can) = can_play(alloc, shape, used, hands, answer, &entry) else {
         return Err(Stop::NoMemory);
     };
     if !can {
         return Err(Stop::Fail(Fail::Own(OwnFail::Differs)));
     }
-    if !act(hands, entry) {
+    if !act(hands, &entry) {
         return Err(Stop::NoMemory);
     }
     Ok(entry.end)

@@ -1,8 +1,10 @@
 //! Tapes: what a part did, one resume after another.
 
-ghost use Rattle.std.specs.Prelude.{◌≡◌, ◌++◌, ◌∷◌, [], ◌+◌, ◌≤◌, ◌<◌, length, IfOk, OnOk, OnErr, ◌^◌, IsSome, slice_get};
+ghost use Rattle.std.specs.Prelude.{◌≡◌, ◌++◌, [], ◌+◌, ◌<◌, length, IfOk, ◌^◌, IsSome, IsErr, slice_get};
 ghost use Rattle.std.specs.Option.{option_copied};
+ghost use Rattle.flow_own.specs.Reels.{reeled};
 
+use crate::reel::Reel;
 use flow_component::{Answer, OwnFail, Wish};
 use flow_items::{Items, Text};
 use flow_packet::{Kind, PacketId};
@@ -25,19 +27,21 @@ pub struct Entry {
     pub end: End,
 }
 
-/// The resumes of one part, in order. Contracts see the list.
+/// The resumes of one part, in order: those that were read from a file, and then those that were recorded. Contracts see the list.
 #[derive(Debug, Drop)]
 pub struct Tape {
+    reel: Option<Reel>,
     pub(crate) entries: Vec<Entry>,
 }
 
 impl Model for Tape {
-    ghost use Rattle.std.specs.Prelude.{List};
+    ghost use Rattle.std.specs.Prelude.{List, ◌++◌};
     ghost use Rattle.flow_own.specs.declared.tape.Entry.{Entry};
+    ghost use Rattle.flow_own.specs.Reels.{reeled};
 
     ghost Value = { List Entry };
 
-    ghost view = { λ t. t.entries.items };
+    ghost view = { λ t. reeled t.reel ++ t.entries.items };
 }
 
 fn copy_made(alloc: Global, made: &Option<(Kind, Text)>) -> Result<Option<(Kind, Text)>, AllocError>
@@ -65,12 +69,32 @@ impl Entry {
     }
 }
 
+fn copy_reel(reel: &Option<Reel>) -> Result<Option<Reel>, AllocError>
+    ensures { IfOk result (λ copy. copy ≡ reel.now) }
+{
+    match reel {
+        Some(reel) => Ok(Some(reel.copy()?)),
+        None => Ok(None),
+    }
+}
+
+fn copy_entries(alloc: Global, entries: &[Entry]) -> Result<Vec<Entry>, AllocError>
+    ensures { IfOk result (λ copies. copies.items ≡ entries.now) }
+{
+    let mut copies = Vec::new(alloc);
+    for entry in entries {
+        copies.push(entry.copy(alloc)?)?;
+    }
+    Ok(copies)
+}
+
 impl Tape {
     /// A tape without entries. Takes no memory.
     pub fn new(alloc: Global) -> Tape
         ensures { result ≡ [] }
     {
         Tape {
+            reel: None,
             entries: Vec::new(alloc),
         }
     }
@@ -79,32 +103,65 @@ impl Tape {
     pub fn of(entries: Vec<Entry>) -> Tape
         ensures { result ≡ entries.items }
     {
-        Tape { entries }
+        Tape {
+            reel: None,
+            entries,
+        }
     }
 
-    pub fn entries(&self) -> &[Entry]
-        ensures { result.now ≡ self.now }
+    /// The tape of a reel. Takes no memory.
+    pub fn of_reel(alloc: Global, reel: Reel) -> Tape
+        ensures { result ≡ reel }
     {
-        &self.entries
+        Tape {
+            reel: Some(reel),
+            entries: Vec::new(alloc),
+        }
     }
 
-    /// The entry at a place, if there is one.
-    pub fn entry(&self, place: usize) -> Option<&Entry>
-        ensures entry { option_copied result ≡ slice_get self.now place }
-        ensures fits { IsSome result → place + 1 < 2 ^ 64 }
+    pub fn len(&self) -> usize
+        ensures { result ≡ length self.now }
     {
-        self.entries.get(place)
+        match &self.reel {
+            Some(reel) => reel.len() + self.entries.len(),
+            None => self.entries.len(),
+        }
     }
 
-    /// A copy of the tape.
+    /// The entries that were read from a file, if some were, and those that were recorded behind them.
+    pub fn parts(&self) -> (Option<&Reel>, &[Entry])
+        ensures { self.now ≡ reeled (option_copied result.0) ++ result.1.now }
+    {
+        (self.reel.as_ref(), &self.entries)
+    }
+
+    /// The entry at a place, if there is one. Where one is asked for after another, each is read from the file once.
+    pub fn entry(&mut self, place: usize) -> Result<Option<Entry>, AllocError>
+        ensures same { self.new ≡ self.old }
+        ensures entry { IfOk result (λ entry. entry ≡ slice_get self.old place) }
+        ensures there { IsErr result → IsSome (slice_get self.old place) }
+        ensures fits { IsSome (slice_get self.old place) → place + 1 < 2 ^ 64 }
+    {
+        let alloc = *self.entries.allocator();
+        let mut before = 0;
+        if let Some(reel) = &mut self.reel {
+            before = reel.len();
+            if place < before {
+                return Ok(Some(reel.entry(alloc, place)?));
+            }
+        }
+        match self.entries.get(place - before) {
+            Some(entry) => Ok(Some(entry.copy(alloc)?)),
+            None => Ok(None),
+        }
+    }
+
+    /// A copy of the tape. What was read from a file isn't copied, but shared.
     pub fn copy(&self) -> Result<Tape, AllocError>
         ensures { IfOk result (λ copy. copy ≡ self.now) }
     {
-        let alloc = *self.entries.allocator();
-        let mut entries = Vec::new(alloc);
-        for entry in &self.entries {
-            entries.push(entry.copy(alloc)?)?;
-        }
-        Ok(Tape { entries })
+        let reel = copy_reel(&self.reel)?;
+        let entries = copy_entries(*self.entries.allocator(), &self.entries)?;
+        Ok(Tape { reel, entries })
     }
 }

@@ -1,9 +1,9 @@
 //! Tape files, byte by byte.
 use flow_component::{Answer, Port, Wish};
-use flow_own::End;
+use flow_own::{End, Tape};
 use flow_packet::{Kind, PacketId};
 use flow_tape::{TAPE_FILE_LIMIT, TapeStop, from_bytes, to_bytes};
-use std::alloc::Global;
+use std::alloc::{AllocError, Global};
 use std::test::Fail;
 
 /// The tape of a part that numbers the packets `a` and `b`.
@@ -25,13 +25,13 @@ const CASES: &[u8] = b"FLOWT001\x02\0\0\0\0\0\0\0\x05\0\0\0\
 
 #[test]
 fn a_tape_is_read(rt: HostRuntime) -> Result<(), Fail> {
-    let read = from_bytes(rt.alloc(), NUMBERED).ok().ok_or("refused")?;
+    let mut read = from_bytes(rt.alloc(), NUMBERED).ok().ok_or("refused")?;
     assert_eq!(rt; NUMBERED.len(), 128);
     assert_eq!(rt; read.len(), 1);
-    let entries = read[0].entries();
-    assert_eq!(rt; entries.len(), 6);
+    let tape = &mut read[0];
+    assert_eq!(rt; tape.len(), 6);
     let got = PacketId::of_number(1);
-    let entry = &entries[3];
+    let entry = tape.entry(3)?.ok_or("no entry")?;
     assert_eq!(rt; entry.answer, Answer::Got(got));
     let (kind, text) = entry.made.as_ref().ok_or("nothing made")?;
     assert_eq!(rt; *kind, Kind::Normal);
@@ -39,8 +39,12 @@ fn a_tape_is_read(rt: HostRuntime) -> Result<(), Fail> {
     assert_eq!(rt; entry.dropped.as_slice(), [got].as_slice());
     let sent = PacketId::of_number(4_294_967_297);
     assert_eq!(rt; entry.end, End::Wish(Wish::Send(Port(0), sent)));
-    assert_eq!(rt; entries[4].answer, Answer::Sent);
-    assert_eq!(rt; entries[5].end, End::Wish(Wish::Deactivate));
+    assert_eq!(rt; answer_at(tape, 4)?, Some(Answer::Sent));
+    let last = tape.entry(5)?.ok_or("no entry")?;
+    assert_eq!(rt; last.end, End::Wish(Wish::Deactivate));
+    // What stands before what was read last is found too.
+    assert_eq!(rt; answer_at(tape, 0)?, Some(Answer::Start));
+    assert_eq!(rt; answer_at(tape, 6)?, None);
     Ok(())
 }
 
@@ -53,7 +57,7 @@ fn entries_have_their_sizes(rt: HostRuntime) -> Result<(), Fail> {
         file[12] = count;
         let read = from_bytes(alloc, &file).ok().ok_or("refused")?;
         assert_eq!(rt; read.len(), 1);
-        assert_eq!(rt; read[0].entries().len(), usize::from(count));
+        assert_eq!(rt; read[0].len(), usize::from(count));
     }
     Ok(())
 }
@@ -64,11 +68,11 @@ fn another_answer_is_read(rt: HostRuntime) -> Result<(), Fail> {
     let alloc = rt.alloc();
     let mut file = NUMBERED.to_vec(alloc)?;
     file[16] = 2;
-    let read = from_bytes(alloc, &file).ok().ok_or("refused")?;
+    let mut read = from_bytes(alloc, &file).ok().ok_or("refused")?;
     assert_eq!(rt; read.len(), 1);
-    let entries = read[0].entries();
-    assert_eq!(rt; entries.len(), 6);
-    assert_eq!(rt; entries[0].answer, Answer::End);
+    let tape = &mut read[0];
+    assert_eq!(rt; tape.len(), 6);
+    assert_eq!(rt; answer_at(tape, 0)?, Some(Answer::End));
     assert_eq!(rt; to_bytes(alloc, &read)?.as_slice(), file.as_slice());
     Ok(())
 }
@@ -86,7 +90,7 @@ fn tapes_are_written_as_they_were_read(rt: HostRuntime) -> Result<(), Fail> {
     for (file, tapes, entries) in [(NUMBERED, 1, 6), (CASES, 2, 5)] {
         let read = from_bytes(alloc, file).ok().ok_or("refused")?;
         assert_eq!(rt; read.len(), tapes);
-        assert_eq!(rt; read[tapes - 1].entries().len(), entries);
+        assert_eq!(rt; read[tapes - 1].len(), entries);
         assert_eq!(rt; to_bytes(alloc, &read)?.as_slice(), file);
     }
     Ok(())
@@ -137,6 +141,11 @@ fn faults_have_their_place(rt: HostRuntime) {
         fault_of(alloc, b"FLOWT001\x01\0\0\0\x01\0\0\0\0\0\0\0\x08"),
         Some(20)
     );
+}
+
+/// What the part was told at a place of its tape, if it has such a place.
+fn answer_at(tape: &mut Tape, place: usize) -> Result<Option<Answer>, AllocError> {
+    Ok(tape.entry(place)?.map(|entry| entry.answer))
 }
 
 /// The place of a file's fault; none where it has no fault, or there was no memory.

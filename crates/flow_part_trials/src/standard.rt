@@ -3,42 +3,47 @@
 use flow_catalogue::{Std, StdKind, kinds};
 use flow_parts::WriteLines;
 use flow_streams::Passthru;
-use std::test::Fail;
+use std::process::Abort;
+
+const NAMES: &[&[u8]] = &[
+    b"ReadLines",
+    b"WriteLines",
+    b"Passthru",
+    b"Words",
+    b"Fill",
+    b"Brackets",
+    b"Copy",
+    b"Concat",
+    b"Collate",
+    b"Discard",
+    b"Bundle",
+    b"Unbundle",
+    b"Hoard",
+    b"Count",
+    b"LoadBalance",
+    b"Select",
+    b"Update",
+    b"Tally",
+    b"Unique",
+    b"Head",
+    b"Tail",
+    b"Match",
+    b"Replace",
+    b"Sort",
+];
+
+fn check_kind(rt: &impl Abort, named: &[u8], name: &[u8]) {
+    assert_eq!(rt; named, name);
+    assert!(rt; StdKind::named(name).is_some());
+}
 
 #[test]
-fn the_table_has_the_standard_kinds(rt: HostRuntime) -> Result<(), Fail> {
-    let kinds = kinds(rt.alloc())?;
-    for (spec, name) in kinds.iter().zip([
-        b"ReadLines".as_slice(),
-        b"WriteLines".as_slice(),
-        b"Passthru".as_slice(),
-        b"Words".as_slice(),
-        b"Fill".as_slice(),
-        b"Brackets".as_slice(),
-        b"Copy".as_slice(),
-        b"Concat".as_slice(),
-        b"Collate".as_slice(),
-        b"Discard".as_slice(),
-        b"Bundle".as_slice(),
-        b"Unbundle".as_slice(),
-        b"Hoard".as_slice(),
-        b"Count".as_slice(),
-        b"LoadBalance".as_slice(),
-        b"Select".as_slice(),
-        b"Update".as_slice(),
-        b"Tally".as_slice(),
-        b"Unique".as_slice(),
-        b"Head".as_slice(),
-        b"Tail".as_slice(),
-        b"Match".as_slice(),
-        b"Replace".as_slice(),
-        b"Sort".as_slice(),
-    ]) {
-        assert_eq!(rt; spec.name.as_slice(), name);
-        assert!(rt; StdKind::named(name).is_some());
+fn the_table_has_the_standard_kinds(rt: HostRuntime) {
+    let kinds = kinds(rt.alloc()).expect(&rt, "no memory");
+    for (spec, name) in kinds.iter().zip(NAMES) {
+        check_kind(&rt, spec.name.as_slice(), *name);
     }
-    assert_eq!(rt; StdKind::named(b"readlines"), None);
-    Ok(())
+    assert!(rt; StdKind::named(b"readlines").is_none());
 }
 
 #[test]

@@ -1,6 +1,6 @@
 -- What Tally sends is the tally of what it gets.
 use Rattle.flow_limits.specs.declared.TheConstants.{TEXT_LIMIT, TURN_LIMIT}
-use Rattle.std.proofs.Common.{◌≡◌, ℕ, ◌+◌, zero, suc, ◌<◌, ◌≤◌, Bool, true, false, List, [], ◌∷◌, ◌++◌, map, length, refl, sym, ap, ◌∙◌, subst, arith, nat_eq, nat_le, Some, if◌then◌else◌, ◌&&◌}
+use Rattle.std.proofs.Common.{◌≡◌, ℕ, ◌+◌, zero, suc, ◌<◌, ◌≤◌, Bool, true, false, List, [], ◌∷◌, ◌++◌, map, length, refl, sym, ap, ◌∙◌, subst, arith, nat_eq, nat_le, Some, if◌then◌else◌, ◌&&◌, ◌-◌, ◌^◌}
 use Rattle.std.specs.Str.{bytes_eq}
 use Rattle.std.proofs.lemmas.Slice.Eq.{bytes_eq-Decides}
 use Rattle.flow_packet.specs.Tree.{Tree, content, id_of, kind_of, text_of, packet_of}
@@ -146,7 +146,7 @@ after-told state held t n text x y true p k e d f =
     s ∙ ap (λ us. text_packet line ∷ us) b ∙ sym (ap (map told_of) (parts (suc n) t state.text (rows_of x) (alike-other t state.text text k e d)))
 after-told state held t n text x y false p k e d f = absurd f
 
-after-same : (state : TallyState) (held : Held) (t : Tree) (id n : ℕ) (text : List ℕ) (x y : List Tree) (same : Bool) → (without_packet held id).packets ≡ [] → kind_of t ≡ Normal → text_of t ≡ text → suc n < 4294967295
+after-same : (state : TallyState) (held : Held) (t : Tree) (id n : ℕ) (text : List ℕ) (x y : List Tree) (same : Bool) → (without_packet held id).packets ≡ [] → kind_of t ≡ Normal → text_of t ≡ text → suc n < 2 ^ 64 - 1
     → bytes_eq text state.text ≡ same
     → FromOutcome (if same then Wishes (record state { times = one_more_time (suc n) }) (without_packet held id) receive_first else row_told state held (without_packet held id) (tally_line (suc n) state.text) 1 text Waiting) x y
     → y ≡ behind (suc n) state.text (t ∷ x)
@@ -166,7 +166,7 @@ after-same state held t id n text x y false p k e few d f =
     told-either true g = g
     told-either false g = absurd g
 
-after-text : (state : TallyState) (held : Held) (t : Tree) (id times : ℕ) (text : List ℕ) (x y : List Tree) → (without_packet held id).packets ≡ [] → kind_of t ≡ Normal → text_of t ≡ text → times < 4294967295
+after-text : (state : TallyState) (held : Held) (t : Tree) (id times : ℕ) (text : List ℕ) (x y : List Tree) → (without_packet held id).packets ≡ [] → kind_of t ≡ Normal → text_of t ≡ text → times < 2 ^ 64 - 1
     → FromOutcome (text_comes state held id times text) x y → y ≡ behind times state.text (t ∷ x)
 after-text state held t id zero text x y p k e few f = f ∙ sym (begins t text (rows_of x) k e)
 after-text state held t id (suc n) text x y p k e few f = after-same state held t id n text x y (bytes_eq text state.text) p k e few refl f
@@ -207,7 +207,7 @@ after-end : (state : TallyState) (held : Held) (times : ℕ) (x y : List Tree) �
 after-end state held zero x y p e c f = f c
 after-end state held (suc n) x y p e c f = rw e (after-end-told state held n y (nat_le (length (tally_line (suc n) state.text)) TEXT_LIMIT) p (rw e at f))
 
-after-packet : (state : TallyState) (held : Held) (t : Tree) (kind : Kind) (x y : List Tree) → state.place ≡ Waiting → state.times < 4294967295 → (h : HoldsOnly held (id_of t)) → t ≡ h.packet → kind_of (content t) ≡ kind
+after-packet : (state : TallyState) (held : Held) (t : Tree) (kind : Kind) (x y : List Tree) → state.place ≡ Waiting → state.times < 2 ^ 64 - 1 → (h : HoldsOnly held (id_of t)) → t ≡ h.packet → kind_of (content t) ≡ kind
     → FromOutcome (one_comes state held (id_of t) kind) x y → y ≡ behind state.times state.text (content t ∷ x)
 after-packet state held t Normal x y p few h e k f =
     let w : text_of (content t) ≡ text_at held.packets (id_of t) = content-text t ∙ ap text_of e ∙ sym (HoldsOnly-text held (id_of t) h) in
@@ -290,7 +290,7 @@ tally_run (Received port t ∷ es) p q r l d a few =
     let e : t ≡ h.packet = HoldsOnly-end held p.held.packets t (Comes-packets p.held t held r.1.grants.1) h in
     let k : kind_of (content t) ≡ kind_at held.packets (id_of t) = content-kind t ∙ ap kind_of e ∙ sym (HoldsOnly-kind held (id_of t) h) in
     let f = later p (Received port t) r.0 es r.1 (tally_run es r.0 q r.2 l d (allowed p (Received port t) r.0 r.1) (fewer p (Received port t) r.0 (length es) r.1 few)) in
-    let small : p.component.times < 4294967295 = omega arith in
+    let small : p.component.times < 2 ^ 64 - 1 = omega arith in
     rw (z, r.1.grants.0) (after-packet p.component held t (kind_at held.packets (id_of t)) (got 0 es) (sent 0 es) r.1.is_ready.0 small h e k f)
 tally_run (Ended port ∷ es) p q r l d a few =
     let b : port < 1 = rw r.1.grants.0 at a in

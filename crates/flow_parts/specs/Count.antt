@@ -1,5 +1,5 @@
 -- The component that counts packets: its state, its rule, and what it is ready for.
-use Rattle.std.specs.Prelude.{◌≡◌, ℕ, ◌+◌, ◌==◌, Bool, true, false, min, [], if◌then◌else◌}
+use Rattle.std.specs.Prelude.{◌≡◌, ℕ, ◌+◌, ◌==◌, Bool, true, false, min, [], if◌then◌else◌, ◌-◌, ◌^◌}
 use Rattle.std.specs.Fmt.{decimal}
 use Rattle.flow_packet.specs.declared.packet.Kind.{Kind}
 use Rattle.flow_packet.specs.declared.packet.Kind.TheVariants.{Normal, Open, Close}
@@ -22,7 +22,7 @@ pub record CountState : Type 0 where
 
 -- One more where the packet is Normal. The number stands still at its greatest value.
 abbrev pub one_more : Kind → ℕ → ℕ
-one_more Normal n = min (n + 1) 4294967295
+one_more Normal n = min (n + 1) (2 ^ 64 - 1)
 one_more Open n = n
 one_more Close n = n
 

@@ -1,6 +1,6 @@
 -- A component that tells how often a text came in a row.
 use Rattle.flow_limits.specs.declared.TheConstants.{TEXT_LIMIT}
-use Rattle.std.specs.Prelude.{◌≡◌, ℕ, ◌+◌, zero, suc, List, [], ◌∷◌, ◌++◌, length, min, nat_le, if◌then◌else◌}
+use Rattle.std.specs.Prelude.{◌≡◌, ℕ, ◌+◌, zero, suc, List, [], ◌∷◌, ◌++◌, length, min, nat_le, if◌then◌else◌, ◌-◌, ◌^◌}
 use Rattle.std.specs.Fmt.{decimal}
 use Rattle.std.specs.Str.{bytes_eq}
 use Rattle.flow_packet.specs.declared.packet.Kind.{Kind}
@@ -24,7 +24,7 @@ tally_line times text = decimal times ++ 32 ∷ text
 
 -- One packet more in the row. The number stands still at its greatest value.
 abbrev pub one_more_time : ℕ → ℕ
-one_more_time n = min (n + 1) 4294967295
+one_more_time n = min (n + 1) (2 ^ 64 - 1)
 
 -- It tells of the row in hand, where that isn't too long for a packet, and has this one then: so many packets of this text.
 abbrev pub row_told : TallyState → Held → Held → List ℕ → ℕ → List ℕ → TallyPlace → Outcome TallyState

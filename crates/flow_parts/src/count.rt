@@ -12,24 +12,24 @@ use std::marker::Model;
 /// Counts Normal packets, and sends their number at the end.
 ///
 /// Its first output gets each packet where it is connected; the second gets one packet, the number in
-/// decimal. The number stands still at 4,294,967,295.
+/// decimal. The number stands still at 2^64 - 1.
 #[derive(Drop)]
 pub struct Count {
     alloc: Global,
     connected: bool,
-    number: u32,
+    number: u64,
     leaving: bool,
 }
 
 impl Model for Count {
-    ghost use Rattle.std.specs.Prelude.{◌≤◌};
+    ghost use Rattle.std.specs.Prelude.{◌<◌, ◌^◌};
     ghost use Rattle.flow_parts.specs.Count.{CountState};
 
     ghost Value = { CountState };
 
     ghost view = { λ c. record { connected = c.connected; number = c.number; leaving = c.leaving } };
 
-    ghost invariant = { λ c. c.number ≤ 4294967295 };
+    ghost invariant = { λ c. c.number < 2 ^ 64 };
 }
 
 impl Count {

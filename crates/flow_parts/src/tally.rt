@@ -26,16 +26,16 @@ pub enum TallyPlace {
 
 /// Replaces each row of Normal packets with one text by a packet that tells how many they are, and their text.
 ///
-/// The number stands still at 4,294,967,295.
+/// The number stands still at 2^64 - 1.
 #[derive(Drop)]
 pub struct Tally {
-    times: u32,
+    times: u64,
     text: Vec<u8>,
     place: TallyPlace,
 }
 
 impl Model for Tally {
-    ghost use Rattle.std.specs.Prelude.{◌≤◌, length};
+    ghost use Rattle.std.specs.Prelude.{◌<◌, ◌≤◌, ◌^◌, length};
     ghost use Rattle.flow_parts.specs.TallyState.{TallyState};
     ghost use Rattle.flow_limits.specs.declared.TheConstants.{TEXT_LIMIT};
 
@@ -43,15 +43,15 @@ impl Model for Tally {
 
     ghost view = { λ t. record { times = t.times; text = t.text.items; place = t.place } };
 
-    ghost invariant = { λ t. (t.times ≤ 4294967295) × (length t.text.items ≤ TEXT_LIMIT) };
+    ghost invariant = { λ t. (t.times < 2 ^ 64) × (length t.text.items ≤ TEXT_LIMIT) };
 }
 
 // What is told of a row.
-fn line_of(alloc: Global, times: u32, text: &[u8]) -> Result<Vec<u8>, AllocError>
+fn line_of(alloc: Global, times: u64, text: &[u8]) -> Result<Vec<u8>, AllocError>
     ensures { IfOk result (λ line. line.items ≡ tally_line times text.now) }
 {
     let mut line = Vec::new(alloc);
-    put_decimal(&mut line, u64::from(times))?;
+    put_decimal(&mut line, times)?;
     line.push(b' ')?;
     line.extend_from_slice(text)?;
     Ok(line)

@@ -1,4 +1,5 @@
 pub mod Locating
+pub mod Needed
 pub mod Readings
 pub mod Replacing
 pub mod Writing

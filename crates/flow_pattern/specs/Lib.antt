@@ -2,3 +2,4 @@ pub mod Pattern
 pub mod Automata
 pub mod Steps
 pub mod Rewriting
+pub mod Needles

@@ -1,12 +1,14 @@
 //! Whether a pattern matches in a text.
 
-ghost use Rattle.std.specs.Prelude.{◌≡◌, IfOk};
+ghost use Rattle.std.specs.Prelude.{◌≡◌, IfOk, IfSome};
 ghost use Rattle.regex.specs.Patterns.{SameCaptures};
 ghost use Rattle.regex_meta.specs.Programs.{pattern_of};
 ghost use Rattle.flow_pattern.specs.Automata.{Serves};
+ghost use Rattle.flow_pattern.specs.Needles.{AreNeeded};
 ghost use Rattle.flow_pattern.specs.declared.finder.Uncompiled.TheVariants.{NoMemory};
 ghost use Rattle.flow_pattern.specs.Pattern.{IsPattern, expression, matches};
 
+use crate::needles::Needles;
 use crate::reading::read;
 use crate::steps::Steps;
 use regex_compile::Error;
@@ -29,21 +31,24 @@ pub struct Finder {
     text: Vec<u8>,
     dfa: Dfa,
     forward: Forward,
+    needles: Needles,
     steps: Steps,
 }
 
 impl Model for Finder {
     ghost use Rattle.std.specs.Prelude.{ℕ, List};
-    ghost use Rattle.std.specs.Prelude.{◌≡◌, false};
+    ghost use Rattle.std.specs.Prelude.{◌≡◌, IfSome, false};
     ghost use Rattle.regex_dfa.specs.Search.{IsForwardFor, stops_when_idle};
     ghost use Rattle.flow_pattern.specs.Automata.{Serves};
+    ghost use Rattle.flow_pattern.specs.Needles.{AreNeeded};
+    ghost use Rattle.flow_pattern.specs.Pattern.{expression};
     ghost use Rattle.flow_pattern.specs.Steps.{HasRoomFor};
 
     ghost Value = { List ℕ };
 
     ghost view = { λ f. f.text.items };
 
-    ghost invariant = { λ f. IsForwardFor f.forward f.dfa × (stops_when_idle f.forward ≡ false) × Serves f.dfa f.text.items × HasRoomFor f.dfa f.steps };
+    ghost invariant = { λ f. IsForwardFor f.forward f.dfa × (stops_when_idle f.forward ≡ false) × Serves f.dfa f.text.items × HasRoomFor f.dfa f.steps × IfSome f.needles (AreNeeded (expression f.text.items)) };
 }
 
 // Written out, so that a proof above sees one call here and not what all the fields let go.
@@ -53,6 +58,7 @@ impl Drop for Finder {
             text: _text,
             dfa: _dfa,
             forward: _forward,
+            needles: _needles,
             steps: _steps,
         } = self;
     }
@@ -93,26 +99,36 @@ pub(crate) fn compiled(alloc: Global, source: &str) -> Result<Program, Uncompile
     }
 }
 
-// The automaton of a pattern.
-pub(crate) fn automaton(alloc: Global, source: &str) -> Result<Dfa, Uncompiled>
-    requires pattern { IsPattern source.now }
-    ensures { IfOk result (λ dfa. Serves dfa source.now) }
-{
-    let program = compiled(alloc, source)?;
-    let Program { dfa, .. } = program;
-    Ok(dfa)
+// What a pattern is searched by: its automaton, and what each match has within it.
+#[derive(Drop)]
+pub(crate) struct Means {
+    pub dfa: Dfa,
+    pub needles: Needles,
 }
 
-// The automaton of the pattern that these bytes are. One that takes more than it may finds no memory.
-pub(crate) fn automaton_of(alloc: Global, pattern: &[u8]) -> Result<Dfa, AllocError>
+// What a pattern is searched by.
+pub(crate) fn means_for(alloc: Global, source: &str) -> Result<Means, Uncompiled>
+    requires pattern { IsPattern source.now }
+    ensures serves { IfOk result (λ means. Serves means.dfa source.now) }
+    ensures needed { IfOk result (λ means. IfSome means.needles (AreNeeded (expression source.now))) }
+{
+    let program = compiled(alloc, source)?;
+    let needles = Needles::of(alloc, &program)?;
+    let Program { dfa, .. } = program;
+    Ok(Means { dfa, needles })
+}
+
+// What the pattern is searched by that these bytes are. One that takes more than it may finds no memory.
+pub(crate) fn means_of(alloc: Global, pattern: &[u8]) -> Result<Means, AllocError>
     requires pattern { IsPattern pattern.now }
-    ensures { IfOk result (λ dfa. Serves dfa pattern.now) }
+    ensures serves { IfOk result (λ means. Serves means.dfa pattern.now) }
+    ensures needed { IfOk result (λ means. IfSome means.needles (AreNeeded (expression pattern.now))) }
 {
     let Ok(source) = str::from_utf8(pattern) else {
         unreachable!()
     };
-    match automaton(alloc, source) {
-        Ok(dfa) => Ok(dfa),
+    match means_for(alloc, source) {
+        Ok(means) => Ok(means),
         Err(_) => Err(AllocError),
     }
 }
@@ -123,13 +139,14 @@ impl Finder {
         requires pattern { IsPattern pattern.now }
         ensures { IfOk result (λ finder. finder ≡ pattern.now) }
     {
-        let dfa = automaton_of(alloc, pattern)?;
+        let Means { dfa, needles } = means_of(alloc, pattern)?;
         let forward = Forward::new(alloc, &dfa, false)?;
         let text = Vec::from_slice(alloc, pattern)?;
         Ok(Finder {
             text,
             dfa,
             forward,
+            needles,
             steps: Steps::new(),
         })
     }
@@ -151,12 +168,15 @@ impl Finder {
         }
     }
 
-    // The same, by steps.
+    // The same, by steps, but where no match can be.
     #[cold]
     fn matches_by_steps(&mut self, alloc: Global, text: &[u8]) -> Result<bool, AllocError>
         ensures same { self.new ≡ self.old }
         ensures found { IfOk result (λ found. found ≡ matches self.old text.now) }
     {
+        if self.needles.are_missing(text, 0) {
+            return Ok(false);
+        }
         self.steps.is_match(alloc, &self.dfa, text, 0)
     }
 }

@@ -6,6 +6,7 @@
 
 mod finder;
 mod locator;
+mod needles;
 mod reading;
 mod replacer;
 mod steps;

@@ -5,7 +5,8 @@ ghost use Rattle.regex.specs.Patterns.{find, span};
 ghost use Rattle.regex.specs.Search.{next_match, LiesWithin};
 ghost use Rattle.flow_pattern.specs.Pattern.{IsPattern, expression};
 
-use crate::finder::automaton_of;
+use crate::finder::{Means, means_of};
+use crate::needles::Needles;
 use crate::steps::Steps;
 use regex_dfa::{Dfa, End, Forward, Reverse, Start};
 use std::alloc::{AllocError, Global};
@@ -19,20 +20,23 @@ pub(crate) struct Locator {
     dfa: Dfa,
     forward: Forward,
     reverse: Reverse,
+    needles: Needles,
     steps: Steps,
 }
 
 impl Model for Locator {
-    ghost use Rattle.std.specs.Prelude.{◌≡◌, ℕ, List, false};
+    ghost use Rattle.std.specs.Prelude.{◌≡◌, ℕ, List, IfSome, false};
     ghost use Rattle.regex_dfa.specs.Search.{IsForwardFor, IsReverseFor, stops_when_idle};
     ghost use Rattle.flow_pattern.specs.Automata.{Serves};
+    ghost use Rattle.flow_pattern.specs.Needles.{AreNeeded};
+    ghost use Rattle.flow_pattern.specs.Pattern.{expression};
     ghost use Rattle.flow_pattern.specs.Steps.{HasRoomFor};
 
     ghost Value = { List ℕ };
 
     ghost view = { λ l. l.text.items };
 
-    ghost invariant = { λ l. IsForwardFor l.forward l.dfa × (stops_when_idle l.forward ≡ false) × IsReverseFor l.reverse l.dfa × Serves l.dfa l.text.items × HasRoomFor l.dfa l.steps };
+    ghost invariant = { λ l. IsForwardFor l.forward l.dfa × (stops_when_idle l.forward ≡ false) × IsReverseFor l.reverse l.dfa × Serves l.dfa l.text.items × HasRoomFor l.dfa l.steps × IfSome l.needles (AreNeeded (expression l.text.items)) };
 }
 
 // Written out, so that a proof above sees one call here and not what all the fields let go.
@@ -43,6 +47,7 @@ impl Drop for Locator {
             dfa: _dfa,
             forward: _forward,
             reverse: _reverse,
+            needles: _needles,
             steps: _steps,
         } = self;
     }
@@ -54,7 +59,7 @@ impl Locator {
         requires pattern { IsPattern pattern.now }
         ensures { IfOk result (λ locator. locator ≡ pattern.now) }
     {
-        let dfa = automaton_of(alloc, pattern)?;
+        let Means { dfa, needles } = means_of(alloc, pattern)?;
         let forward = Forward::new(alloc, &dfa, false)?;
         let reverse = Reverse::new(alloc, &dfa)?;
         let text = Vec::from_slice(alloc, pattern)?;
@@ -63,6 +68,7 @@ impl Locator {
             dfa,
             forward,
             reverse,
+            needles,
             steps: Steps::new(),
         })
     }
@@ -93,7 +99,7 @@ impl Locator {
         }
     }
 
-    // The same, by steps.
+    // The same, by steps, but where no match can be.
     #[cold]
     fn find_by_steps(
         &mut self,
@@ -105,6 +111,9 @@ impl Locator {
         ensures same { self.new ≡ self.old }
         ensures found { IfOk result (λ found. found ≡ option_map span (find (expression self.old) text.now start)) }
     {
+        if self.needles.are_missing(text, start) {
+            return Ok(None);
+        }
         self.steps.find(alloc, &self.dfa, text, start)
     }
 

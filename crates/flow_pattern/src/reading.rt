@@ -6,7 +6,7 @@ ghost use Rattle.regex.specs.Patterns.{Reads};
 ghost use Rattle.regex_syntax.specs.WellFormed.{IsWellFormed};
 ghost use Rattle.flow_pattern.specs.Pattern.{pattern_options, IsPattern};
 
-use crate::finder::{Uncompiled, automaton, automaton_of};
+use crate::finder::{Uncompiled, means_for, means_of};
 use flow_limits::PATTERN_LIMIT;
 use regex_syntax::{Config, Error, ErrorKind, Parsed, parse};
 use std::alloc::{AllocError, Global};
@@ -87,7 +87,7 @@ pub fn is_pattern(alloc: Global, text: &[u8]) -> Result<bool, AllocError>
     if slip_in(alloc, text)?.is_some() {
         return Ok(false);
     }
-    let _automaton = automaton_of(alloc, text)?;
+    let _means = means_of(alloc, text)?;
     Ok(true)
 }
 
@@ -105,7 +105,7 @@ pub fn is_too_large(alloc: Global, text: &[u8]) -> Result<bool, AllocError> {
 fn is_source_too_large(alloc: Global, source: &str) -> Result<bool, AllocError>
     requires { IsPattern source.now }
 {
-    match automaton(alloc, source) {
+    match means_for(alloc, source) {
         Ok(_) => Ok(false),
         Err(Uncompiled::TooLarge) => Ok(true),
         Err(Uncompiled::NoMemory) => Err(AllocError),

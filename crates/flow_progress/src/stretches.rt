@@ -82,7 +82,7 @@ pub(crate) fn to_the_end<R: Threads + Wait + Sync + Eprint>(
     let mut net = net;
     for _ in rt.forever() {
         let before = net.turns_made() as u64;
-        let closed = run_for(rt, alloc, net, WORKERS, &NoGate, STRETCH)?;
+        let closed = run_for(rt, alloc, net, WORKERS, &NoGate, STRETCH)?.into_closed();
         tell(rt, &closed.net);
         if (closed.net.turns_made() as u64) < before + WORKERS as u64 * STRETCH {
             return Ok(closed);

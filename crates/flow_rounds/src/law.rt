@@ -1,6 +1,7 @@
 //! What runs by rounds are as a whole.
 ghost use Rattle.flow_rounds.specs.Whole.{ReadsAsWhole, WritesAsWhole, FedIsWhole};
 ghost use Rattle.flow_rounds.specs.Rounds.{RoundsReachWhole, RoundsAreOneSchedule};
+ghost use Rattle.flow_rounds.specs.Left.{StepsLeaveFiles};
 ghost use Rattle.flow_rounds.specs.Steps.{StepsAreRobin};
 ghost use Rattle.flow_rounds.specs.FedSteps.{RoundsAreRobin};
 ghost use Rattle.flow_rounds.specs.Standard.{StandardHaveFiles};
@@ -28,6 +29,12 @@ pub fn a_fed_network_is_that_of_its_files<K: Component>()
 pub fn a_run_by_rounds_is_one_schedule<K: Component>()
     ensures reaches { RoundsReachWhole K.rules }
     ensures schedule { RoundsAreOneSchedule K.rules }
+{}
+
+/// Turns and works in any order leave all that the readers were given, whether they have ended, and what was taken from
+/// the writers: only who tends them changes it.
+pub fn turns_leave_the_files<K: Component>()
+    ensures { StepsLeaveFiles K.rules }
 {}
 
 /// Where no work is pending, steps of one thread from the beginning of a pass to the end of one without a turn are the

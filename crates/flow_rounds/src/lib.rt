@@ -10,5 +10,5 @@ pub use law::{
     a_fed_network_is_that_of_its_files, a_reader_of_pieces_reads_the_whole_file,
     a_run_by_rounds_is_one_schedule, a_writer_of_pieces_writes_the_whole_file,
     rounds_of_one_thread_are_its_round_robin, standard_components_read_and_write_files,
-    steps_are_a_round_robin,
+    steps_are_a_round_robin, turns_leave_the_files,
 };

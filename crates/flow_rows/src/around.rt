@@ -116,17 +116,22 @@ impl Around {
         put_at(self.file_to_change(name)?, place, &new)
     }
 
-    /// The shelf over which the next call goes.
-    pub fn shelf(&self) -> Result<MemShelf, RowStop> {
+    fn copy_of_files(&self) -> Result<Vec<(String, Vec<u8>)>, RowStop> {
         let mut files = Vec::new(self.alloc);
         for (name, bytes) in &self.files {
             files.push((name.clone()?, bytes.clone()?))?;
         }
-        let read_fails = self.read_fails.clone()?;
-        let write_fails = self.write_fails.clone()?;
+        Ok(files)
+    }
+
+    /// The shelf over which the next call goes.
+    pub fn shelf(&self) -> Result<MemShelf, RowStop> {
         if self.piece == 0 {
             return Err(RowStop::Unknown);
         }
+        let files = self.copy_of_files()?;
+        let read_fails = self.read_fails.clone()?;
+        let write_fails = self.write_fails.clone()?;
         Ok(MemShelf::new(
             self.alloc,
             files,
@@ -139,10 +144,10 @@ impl Around {
 
     /// What takes what the next call prints.
     pub fn sink(&self) -> Result<MemSink, RowStop> {
-        let fails = self.print_fails.clone()?;
         if self.print_piece == 0 {
             return Err(RowStop::Unknown);
         }
+        let fails = self.print_fails.clone()?;
         Ok(MemSink::new(self.alloc, self.print_piece, self.room, fails)?)
     }
 }

@@ -8,13 +8,13 @@ use crate::bytes::{RowStop, number};
 use crate::came::Came;
 use crate::page::first_word;
 use crate::said::said;
-use flow_cli::{OwnKind, Status, busy_top, needs_workers, plain_top};
+use flow_cli::{Outcome, OwnKind, Status, busy_top, needs_workers, plain_top};
 use flow_component::NoGate;
 use flow_draw::draw_top;
 use flow_limits::NUMBER_LIMIT;
 use flow_make::make;
 use flow_number::{Number, number_is_an_own_kind, number_kind};
-use flow_text::MemShelf;
+use flow_text::{MemShelf, MemSink};
 use std::alloc::{AllocError, Global};
 use std::sync::Wait;
 use std::thread::Threads;
@@ -47,6 +47,15 @@ pub fn words_of(alloc: Global, line: &str) -> Result<Vec<String>, AllocError> {
     Ok(words)
 }
 
+// So many parts of the kind Number.
+fn numbers(alloc: Global, count: u64) -> Result<Vec<Number>, AllocError> {
+    let mut parts = Vec::new(alloc);
+    for _ in 0..count {
+        parts.push(Number::new(alloc))?;
+    }
+    Ok(parts)
+}
+
 /// The kind Number with so many parts, or no kind at all.
 fn own_kinds(alloc: Global, count: Option<u64>) -> Result<Vec<OwnKind<Number>>, AllocError>
     ensures { IfOk result (λ own. AreOwnKinds (specs_of (offers_of own.items))) }
@@ -54,10 +63,7 @@ fn own_kinds(alloc: Global, count: Option<u64>) -> Result<Vec<OwnKind<Number>>, 
     let Some(count) = count else {
         return Ok(Vec::new(alloc));
     };
-    let mut parts = Vec::new(alloc);
-    for _ in 0..count {
-        parts.push(Number::new(alloc))?;
-    }
+    let parts = numbers(alloc, count)?;
     let spec = number_kind(alloc)?;
     let mut own = Vec::new(alloc);
     own.push(OwnKind { spec, parts })?;
@@ -75,13 +81,25 @@ fn call_flow<R: Threads + Wait + Sync>(
     let words = words_of(alloc, line)?;
     let mut shelf = around.shelf()?;
     let mut out = around.sink()?;
-    let own = own_kinds(alloc, around.parts)?;
-    let outcome = if needs_workers(alloc, &words)? {
-        busy_top(rt, alloc, &words, &mut shelf, &mut out, &NoGate, own)
-    } else {
-        plain_top(alloc, &words, &mut shelf, &mut out, own)
-    };
+    let outcome = run_flow(rt, alloc, around.parts, &words, &mut shelf, &mut out)?;
     Ok(Came::of(alloc, &outcome, shelf, &out)?)
+}
+
+// The call itself.
+fn run_flow<R: Threads + Wait + Sync>(
+    rt: &R,
+    alloc: Global,
+    parts: Option<u64>,
+    words: &[String],
+    shelf: &mut MemShelf,
+    out: &mut MemSink,
+) -> Result<Outcome, AllocError> {
+    let by_workers = needs_workers(alloc, words)?;
+    let own = own_kinds(alloc, parts)?;
+    if by_workers {
+        return Ok(busy_top(rt, alloc, words, shelf, out, &NoGate, own));
+    }
+    Ok(plain_top(alloc, words, shelf, out, own))
 }
 
 // What the program `draw` does with these words.
@@ -96,6 +114,18 @@ fn call_draw(alloc: Global, around: &Around, line: &str) -> Result<Came, RowStop
     Ok(came)
 }
 
+// The files `net` and `in` of these texts.
+fn two_files(
+    alloc: Global,
+    network: &[u8],
+    input: &[u8],
+) -> Result<Vec<(String, Vec<u8>)>, AllocError> {
+    let mut files = Vec::new(alloc);
+    files.push((String::from_str(alloc, "net")?, network.to_vec(alloc)?))?;
+    files.push((String::from_str(alloc, "in")?, input.to_vec(alloc)?))?;
+    Ok(files)
+}
+
 // Makes the network file `net` and its input `in` from a number.
 fn make_files(alloc: Global, text: &str) -> Result<Came, RowStop> {
     let number = number(text)?;
@@ -103,13 +133,7 @@ fn make_files(alloc: Global, text: &str) -> Result<Came, RowStop> {
         return Err(RowStop::Unknown);
     }
     let made = make(alloc, number as u32)?;
-    let mut files = Vec::new(alloc);
-    for (name, text) in [("net", &made.network), ("in", &made.input)] {
-        files.push((
-            String::from_str(alloc, name)?,
-            text.as_slice().to_vec(alloc)?,
-        ))?;
-    }
+    let files = two_files(alloc, made.network.as_slice(), made.input.as_slice())?;
     let shelf = MemShelf::new(alloc, files, 1, 0, Vec::new(alloc), Vec::new(alloc));
     Ok(Came::printed(alloc, Status::Finished, Vec::new(alloc), shelf))
 }

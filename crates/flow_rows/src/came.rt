@@ -39,14 +39,20 @@ impl Came {
         shelf: MemShelf,
         out: &MemSink,
     ) -> Result<Came, AllocError> {
-        let mut came = Came::printed(alloc, outcome.status, out.bytes().to_vec(alloc)?, shelf);
-        came.turns = outcome.journal.turns.len();
+        let printed = out.bytes().to_vec(alloc)?;
+        let mut came = Came::printed(alloc, outcome.status, printed, shelf);
+        came.count(outcome)?;
+        Ok(came)
+    }
+
+    fn count(&mut self, outcome: &Outcome) -> Result<(), AllocError> {
+        self.turns = outcome.journal.turns.len();
         for number in outcome.journal.seen.as_slice() {
-            came.seen.push(u64::from(*number))?;
+            self.seen.push(u64::from(*number))?;
         }
         for tape in &outcome.tapes {
-            came.entries.push(tape.entries().len() as u64)?;
+            self.entries.push(tape.entries().len() as u64)?;
         }
-        Ok(came)
+        Ok(())
     }
 }

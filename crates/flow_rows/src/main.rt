@@ -45,6 +45,17 @@ impl Count {
     }
 }
 
+fn follow_all<R: Threads + Wait + Sync>(
+    rt: &R,
+    stage: &mut Stage,
+    steps: &[Step],
+) -> Result<(), AllocError> {
+    for step in steps {
+        stage.follow(rt, step)?;
+    }
+    Ok(())
+}
+
 /// What differs in a row, line by line, and nothing where all is as it is wanted.
 fn differences<R: Threads + Wait + Sync>(
     rt: &R,
@@ -53,12 +64,8 @@ fn differences<R: Threads + Wait + Sync>(
     steps: &[Step],
 ) -> Result<String, AllocError> {
     let mut stage = Stage::new(alloc);
-    for step in common {
-        stage.follow(rt, step)?;
-    }
-    for step in steps {
-        stage.follow(rt, step)?;
-    }
+    follow_all(rt, &mut stage, common)?;
+    follow_all(rt, &mut stage, steps)?;
     stage.told()
 }
 
@@ -81,6 +88,19 @@ fn run_page<R: Print + Threads + Wait + Sync>(
     Ok(count)
 }
 
+/// Goes through the rows of the file of a name, and tells how many passed.
+fn run_file<R: Print + Files + AllocGlobal + Threads + Wait + Sync>(
+    rt: &R,
+    name: &str,
+) -> io::Result<Count> {
+    let text = fs::read_to_string(rt, name)?;
+    let page = Page::of(rt.alloc(), &text)?;
+    let count = run_page(rt, rt.alloc(), name, &page)?;
+    let Count { rows, passed } = count;
+    println!(rt; "{name}: {passed} of {rows} rows")?;
+    Ok(count)
+}
+
 /// Goes through the files that are named.
 fn run_pages<R: Print + Files + AllocGlobal + Threads + Wait + Sync>(
     rt: &R,
@@ -88,12 +108,7 @@ fn run_pages<R: Print + Files + AllocGlobal + Threads + Wait + Sync>(
 ) -> io::Result<Count> {
     let mut count = Count::NONE;
     for name in names {
-        let text = fs::read_to_string(rt, name.as_str())?;
-        let page = Page::of(rt.alloc(), &text)?;
-        let of_page = run_page(rt, rt.alloc(), name, &page)?;
-        let Count { rows, passed } = of_page;
-        println!(rt; "{name}: {passed} of {rows} rows")?;
-        count.add(of_page);
+        count.add(run_file(rt, name.as_str())?);
     }
     let Count { rows, passed } = count;
     println!(rt; "{passed} of {rows} rows passed")?;

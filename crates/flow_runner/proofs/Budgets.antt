@@ -1,5 +1,5 @@
 -- How many turns workers made together.
-use Rattle.std.proofs.Common.{◌≡◌, ℕ, suc, ◌+◌, ◌*◌, ◌≤◌, Bool, true, false, cond, List, [], ◌∷◌, All, length, refl, ap, subst, ◌∙◌, arith, ◌⊎◌, inl, inr}
+use Rattle.std.proofs.Common.{◌≡◌, ℕ, zero, suc, ◌+◌, ◌*◌, ◌≤◌, Bool, true, false, cond, List, [], ◌∷◌, All, length, refl, ap, subst, ◌∙◌, arith, ◌⊎◌, inl, inr}
 use Rattle.std.specs.Prelude.{sum_by, nat_lt, ◌||◌}
 use Rattle.std.specs.List.{list_any}
 use Rattle.std.proofs.lemmas.List.Sums.{sum_by-cons}
@@ -12,6 +12,7 @@ use Rattle.flow_floor.specs.Floors.{SomeReadZero, IsNewWorker, turns_of}
 use Rattle.flow_floor.specs.Made.{numbered, insert, merge}
 use Rattle.flow_floor.specs.Shut.{IsShut}
 use Rattle.flow_runner.specs.Attempts.{HasMade, HasSpent}
+use Rattle.flow_runner.specs.Crews.{made_each}
 
 length-numbered : (n : ℕ) (log : List Logged) → length (numbered n log) ≡ length log
 length-numbered n [] = refl
@@ -49,6 +50,12 @@ module _ {K : Type 0} where
 
   all-tail : (P : Worker K → Type 0) (w : Worker K) (ws : List (Worker K)) → All P (w ∷ ws) → P w × All P ws
   all-tail P w ws all = (all 0 w (omega arith), λ k d lt. all (suc k) d (omega (arith, lt)))
+
+  -- So each of the lists that they made is no longer.
+  pub each-most : (budget : ℕ) (ws : List (Worker K)) → All (HasMade budget) ws → All (λ (turns : List (ℕ × ℕ)). length turns ≤ budget) (made_each ws)
+  each-most budget [] all k d lt = absurd (omega (arith, lt))
+  each-most budget (w ∷ ws) all zero d lt = (all-tail (HasMade budget) w ws all).0.0
+  each-most budget (w ∷ ws) all (suc k) d lt = each-most budget ws (all-tail (HasMade budget) w ws all).1 k d (omega (arith, lt))
 
   sum-most : (budget : ℕ) (ws : List (Worker K)) → All (HasMade budget) ws → sum_by (λ (w : Worker K). length w.seat.me.0.made) ws ≤ length ws * budget
   sum-most budget [] all = omega arith

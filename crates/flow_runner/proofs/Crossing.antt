@@ -41,6 +41,8 @@ use Rattle.flow_runner.proofs.lines.Told.TheSendSync as ToldSync
 use Rattle.flow_runner.specs.contracts.lines.Told as Told
 use Rattle.flow_runner.proofs.lines.Common.TheSendSync as CommonSync
 use Rattle.flow_runner.specs.contracts.lines.Common as Common
+use Rattle.flow_runner.proofs.paces.Pace.TheSendSync as PaceSync
+use Rattle.flow_runner.specs.contracts.paces.Pace as Pace
 use Rattle.crossbeam_utils.specs.contracts.cache_padded.CachePadded as Padded
 
 inlet-send : IsSend Inlet.the_row
@@ -129,9 +131,12 @@ post-sync = search (sendable, crosses, line-field, padded-sync) depth 20
 posts-sync : IsSync (Vec.the_row Post.the_row Heap.the_row ghosts)
 posts-sync = search (sendable, crosses, post-sync) depth 20
 
--- All lines.
+paces-sync : IsSync (Vec.the_row Pace.the_row Heap.the_row ghosts)
+paces-sync = search (sendable, crosses, PaceSync.the_sync) depth 20
+
+-- All lines, and the paces of the processes.
 pub lines-sync : IsSync Lines.the_row
-lines-sync = search (sendable, crosses, posts-sync, Bell.the_sync, common-sync) depth 20
+lines-sync = search (sendable, crosses, posts-sync, paces-sync, Bell.the_sync, common-sync) depth 20
 
 -- So may a reference to a budget.
 pub budget-sync : (ℓ : Lifetime) (κ : Lft) → IsSync (ShrRef ℓ κ (Option.the_row u64))

@@ -1,13 +1,14 @@
-//! Whether a worker without work of its own should help others.
+//! Whether workers without work of their own should help others.
 //!
 //! A packet that goes from one processor to another costs both more than a light turn of it. So where processes hang together and their turns are light,
 //! the run is fastest where one worker makes all of them; where turns are long, the more workers the better. Between both nobody can say beforehand: it is
 //! tried, and what counts is how many turns all workers make together over a sleep.
 ghost use Rattle.std.specs.Prelude.{◌≤◌};
 
+use crate::lines::Lines;
 use crate::tuned::{
-    BURST_LIMIT, BURST_MICROS, FIRST_HELPS, FIRST_PAUSE, HEAVY_MICROS, LONGEST_PAUSE, MOST_HELPS,
-    PAYING_EIGHTHS, SHORTEST_TRIAL, TRIED_HELPS, TRIED_MICROS,
+    BURST_LIMIT, BURST_MICROS, CUT_SLEEPS, FIRST_HELPS, HEAVY_NANOS, MOST_HELPS, PAYING_EIGHTHS,
+    SHORTENED_BY, TRIED_HELPS, TRIED_NANOS,
 };
 
 /// What one saw of all workers over a sleep.
@@ -16,7 +17,9 @@ pub(crate) struct Sight {
     slept: u64,
     /// How many turns all made.
     turns: u64,
-    /// Whether one at work took few processes, and whether one took no more than some.
+    /// Whether one was at work all the time, one made few turns in it, and one no more than some. Of one that rested meanwhile nobody knows how long its
+    /// turns are.
+    at_work: bool,
     heavy: bool,
     middling: bool,
     pub ghost slept_some: { 1 ≤ slept },
@@ -29,42 +32,57 @@ impl Sight {
         Sight {
             slept,
             turns: 0,
+            at_work: false,
             heavy: false,
             middling: false,
         }
     }
 
-    /// How many turns a burst of a worker should have that made so many.
-    pub(crate) fn burst(&self, turns: u64) -> u64 {
-        (turns.saturating_mul(BURST_MICROS) / self.slept)
-            .max(1)
-            .min(BURST_LIMIT as u64)
-    }
-
-    /// Adds a worker that made so many turns and took so many processes.
-    pub(crate) fn adds(&mut self, turns: u64, taken: u64, at_work: bool) {
+    /// Adds a worker that made so many turns, and was at work all the time, or wasn't.
+    pub(crate) fn adds(&mut self, turns: u64, at_work: bool) {
         self.turns = self.turns.saturating_add(turns);
         if at_work {
-            self.heavy |= taken <= self.slept / HEAVY_MICROS;
-            self.middling |= taken <= self.slept / TRIED_MICROS;
+            let nanos = self.slept.saturating_mul(1_000);
+            self.at_work = true;
+            self.heavy |= turns.saturating_mul(HEAVY_NANOS) <= nanos;
+            self.middling |= turns.saturating_mul(TRIED_NANOS) <= nanos;
         }
     }
 
-    /// How fast the run goes: turns in 1,024 microseconds.
-    fn rate(&self) -> u64 {
-        self.turns.saturating_mul(1_024) / self.slept
+    /// How many turns a burst of that worker should have, which has had so many. By one that rested meanwhile bursts get no shorter.
+    pub(crate) fn burst(&self, turns: u64, at_work: bool, burst: u32) -> u64 {
+        let least = if at_work {
+            burst as u64 / SHORTENED_BY
+        } else {
+            burst as u64
+        };
+        (turns.saturating_mul(BURST_MICROS) / self.slept)
+            .max(least)
+            .max(1)
+            .min(BURST_LIMIT as u64)
     }
 }
 
-/// How far a trial is.
+/// How far a trial is. Each step of it is a sleep of one length, and each number that of the turns that all workers made over such a sleep.
 #[derive(Clone, Copy)]
 enum Trial {
-    /// None is on, and for so many sleeps there will be none.
-    Waits(u32),
-    /// Help was just called for; without it the run went so fast.
+    /// None is on.
+    Off,
+    /// Nobody is helped, and it is seen how many turns are made so.
+    Alone,
+    /// Help was called for; so many turns were made without it.
     Begins(u64),
     /// Help is there.
-    Runs(u64),
+    Helped(u64),
+    /// Help is over; so many turns were made with it.
+    Ends(u64),
+    /// Nobody is helped again, to see that it was the help and not the hour.
+    AloneAgain(u64),
+}
+
+/// Whether help pays by which so many turns were made, and without which so many.
+fn pays(helped: u64, alone: u64) -> bool {
+    helped.saturating_mul(8) >= alone.saturating_mul(PAYING_EIGHTHS)
 }
 
 /// What the lookout makes of what it sees.
@@ -78,8 +96,8 @@ pub(crate) struct Judge {
     helps: u64,
     tried_helps: u64,
     trial: Trial,
-    /// For how many sleeps the next trial waits if it fails.
-    pause: u32,
+    /// How many sleeps of the trial were cut short.
+    cut: u32,
 }
 
 impl Judge {
@@ -89,74 +107,106 @@ impl Judge {
             suspects: false,
             helps: FIRST_HELPS,
             tried_helps: TRIED_HELPS,
-            trial: Trial::Waits(0),
-            pause: FIRST_PAUSE,
+            trial: Trial::Off,
+            cut: 0,
         }
     }
 
-    /// How many processes may be taken from others from now on; `None`: as before. Others may be helped already, or not.
-    pub(crate) fn decides(&mut self, sight: &Sight, helped: bool) -> Option<u64> {
+    /// Whether a trial is on. Who judges it sleeps as long as the trial asks for, and helps nobody.
+    pub(crate) fn tries(&self) -> bool {
+        !matches!(self.trial, Trial::Off)
+    }
+
+    /// Behind a sleep over which it saw this: how many processes may be taken from others from now on, or a step more of a trial.
+    pub(crate) fn judges(&mut self, sight: &Sight, lines: &Lines) {
+        match self.trial {
+            Trial::Off => self.looks(sight, lines),
+            Trial::Alone => {
+                self.trial = Trial::Begins(sight.turns);
+                lines.set_helps(TRIED_HELPS);
+            }
+            Trial::Begins(alone) => self.trial = Trial::Helped(alone),
+            Trial::Helped(alone) => {
+                lines.set_helps(0);
+                if pays(sight.turns, alone) {
+                    self.trial = Trial::Ends(sight.turns);
+                } else {
+                    self.fails(lines);
+                }
+            }
+            Trial::Ends(helped) => self.trial = Trial::AloneAgain(helped),
+            Trial::AloneAgain(helped) => {
+                if pays(helped, sight.turns) {
+                    self.succeeds(lines);
+                } else {
+                    self.fails(lines);
+                }
+            }
+        }
+    }
+
+    /// Another one looks out: whatever trial was on is none of its any more.
+    pub(crate) fn stands_aside(&mut self) {
+        self.trial = Trial::Off;
+    }
+
+    /// A sleep of a trial was cut short, so it tells nothing.
+    pub(crate) fn was_cut_short(&mut self, lines: &Lines) {
+        self.cut = self.cut.saturating_add(1);
+        if self.cut >= CUT_SLEEPS {
+            self.fails(lines);
+        }
+    }
+
+    /// No trial is on.
+    fn looks(&mut self, sight: &Sight, lines: &Lines) {
+        let helped = lines.may_help();
         if sight.heavy {
-            return self.heavy(helped);
+            if !helped {
+                self.suspects(lines);
+            }
+            return;
+        }
+        if !sight.at_work {
+            return;
         }
         self.suspects = false;
         self.helps = FIRST_HELPS;
-        if !sight.middling || self.few {
-            self.trial = Trial::Waits(0);
-            return if helped { Some(0) } else { None };
+        if !sight.middling {
+            if helped {
+                lines.set_helps(0);
+            }
+            return;
         }
-        self.tries(sight, helped)
+        if !helped && !self.few && lines.trial_is_due() {
+            self.trial = Trial::Alone;
+            self.cut = 0;
+        }
     }
 
     /// Heavy work was seen: where it is seen twice, others are helped.
-    fn heavy(&mut self, helped: bool) -> Option<u64> {
-        self.trial = Trial::Waits(0);
-        if helped {
-            return None;
-        }
+    fn suspects(&mut self, lines: &Lines) {
         self.suspects = !self.suspects;
         if self.suspects {
-            return None;
+            return;
         }
-        let helps = self.helps;
-        self.helps = helps.saturating_mul(2).min(MOST_HELPS);
-        Some(helps)
+        lines.set_helps(self.helps);
+        self.helps = self.helps.saturating_mul(2).min(MOST_HELPS);
     }
 
-    /// One step more of a trial, or the first.
-    fn tries(&mut self, sight: &Sight, helped: bool) -> Option<u64> {
-        match self.trial {
-            Trial::Waits(0) => {
-                if helped || sight.slept < SHORTEST_TRIAL {
-                    return None;
-                }
-                self.trial = Trial::Begins(sight.rate());
-                Some(TRIED_HELPS)
-            }
-            Trial::Waits(sleeps) => {
-                self.trial = Trial::Waits(sleeps - 1);
-                None
-            }
-            Trial::Begins(before) => {
-                self.trial = Trial::Runs(before);
-                None
-            }
-            Trial::Runs(before) => self.ends_trial(before, sight.rate()),
-        }
+    /// The trial went well.
+    fn succeeds(&mut self, lines: &Lines) {
+        self.trial = Trial::Off;
+        lines.trial_paid();
+        lines.set_helps(self.tried_helps);
+        self.tried_helps = self.tried_helps.saturating_mul(2).min(MOST_HELPS);
     }
 
-    /// The trial is over: without help the run went so fast, and with it so fast.
-    fn ends_trial(&mut self, before: u64, now: u64) -> Option<u64> {
-        if now.saturating_mul(8) >= before.saturating_mul(PAYING_EIGHTHS) {
-            self.trial = Trial::Waits(0);
-            self.pause = FIRST_PAUSE;
-            let helps = self.tried_helps;
-            self.tried_helps = helps.saturating_mul(2).min(MOST_HELPS);
-            return Some(helps);
-        }
-        self.trial = Trial::Waits(self.pause);
-        self.pause = self.pause.saturating_mul(2).min(LONGEST_PAUSE);
+    /// Nobody is helped.
+    fn fails(&mut self, lines: &Lines) {
+        self.trial = Trial::Off;
+        lines.set_helps(0);
+        lines.trial_failed();
         self.tried_helps = TRIED_HELPS;
-        Some(0)
     }
 }

@@ -8,6 +8,7 @@ mod groups;
 mod judge;
 mod line;
 mod lines;
+mod paces;
 mod paused;
 mod posted;
 mod readied;

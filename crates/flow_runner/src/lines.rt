@@ -1,8 +1,10 @@
 //! The lines of a run: one for each worker.
-ghost use Rattle.std.specs.Prelude.{◌≡◌};
+ghost use Rattle.std.specs.Prelude.{◌≡◌, ◌≤◌};
 
 use crate::line::Line;
+use crate::paces::Pace;
 use crate::rest::Bell;
+use crate::tuned::{BEFORE_TRIALS, BURST_LIMIT, FIRST_PAUSE, LONGEST_PAUSE};
 use crossbeam_utils::CachePadded;
 use std::sync::atomic::{AtomicU64, Ordering};
 
@@ -15,6 +17,7 @@ pub(crate) struct Told {
     beat: AtomicU64,
     turns: AtomicU64,
     burst: AtomicU64,
+    process: AtomicU64,
 }
 
 impl Told {
@@ -22,13 +25,14 @@ impl Told {
         Told {
             beat: AtomicU64::new(0),
             turns: AtomicU64::new(0),
-            burst: AtomicU64::new(0),
+            burst: AtomicU64::new(1),
+            process: AtomicU64::new(0),
         }
     }
 }
 
-/// A worker's line, and how far the worker has come: its *beat* is twice the number of processes that it took, and one more
-/// while it is at work.
+/// A worker's line, and what the worker tells of itself: its *beat* is counted up whenever it comes to work and whenever it rests, and is odd while it is at
+/// work.
 #[derive(Drop)]
 pub(crate) struct Post {
     pub(crate) line: Line,
@@ -62,13 +66,25 @@ impl Post {
         self.told.turns.store(turns, Ordering::SeqCst);
     }
 
-    /// How many turns its bursts should have; 0 where it wasn't told anything new.
-    pub(crate) fn burst(&self) -> u64 {
-        self.told.burst.load(Ordering::SeqCst)
+    /// How many turns its bursts have at most: one at first.
+    pub(crate) fn burst(&self) -> u32
+        ensures { 1 ≤ result }
+    {
+        let burst = self.told.burst.load(Ordering::SeqCst);
+        burst.max(1).min(BURST_LIMIT as u64) as u32
     }
 
     pub(crate) fn set_burst(&self, turns: u64) {
         self.told.burst.store(turns, Ordering::SeqCst);
+    }
+
+    /// The process that the worker tended last.
+    pub(crate) fn process(&self) -> u64 {
+        self.told.process.load(Ordering::SeqCst)
+    }
+
+    pub(crate) fn set_process(&self, process: u32) {
+        self.told.process.store(process as u64, Ordering::SeqCst);
     }
 }
 
@@ -79,29 +95,42 @@ pub(crate) struct Common {
     helps: AtomicU64,
     /// The number of the one who judges whether to help, and one more; or 0.
     lookout: AtomicU64,
+    /// For how many sleeps more nothing is tried, and for how many after the next trial that fails.
+    waits: AtomicU64,
+    pause: AtomicU64,
 }
 
 /// The posts of all workers.
 #[derive(Drop)]
 pub(crate) struct Lines {
     pub(crate) posts: Vec<Post>,
+    /// Those of the processes, in the order of their numbers.
+    paces: Vec<Pace>,
     common: CachePadded<Common>,
     /// Ends the sleeps of those who found nothing.
     pub(crate) bell: Bell,
 }
 
 impl Lines {
-    pub(crate) fn new(posts: Vec<Post>) -> Lines
+    pub(crate) fn new(posts: Vec<Post>, paces: Vec<Pace>) -> Lines
         ensures { result.posts ≡ posts }
     {
         Lines {
             posts,
+            paces,
             common: CachePadded::new(Common {
                 helps: AtomicU64::new(0),
                 lookout: AtomicU64::new(0),
+                waits: AtomicU64::new(BEFORE_TRIALS),
+                pause: AtomicU64::new(FIRST_PAUSE),
             }),
             bell: Bell::new(),
         }
+    }
+
+    /// The pace of this process.
+    pub(crate) fn pace(&self, process: u64) -> Option<&Pace> {
+        self.paces.get(process as usize)
     }
 
     pub(crate) fn may_help(&self) -> bool {
@@ -127,6 +156,29 @@ impl Lines {
         if self.may_help() {
             self.bell.call();
         }
+    }
+
+    /// Whether whether help pays may be tried again; if not, it is one sleep nearer.
+    pub(crate) fn trial_is_due(&self) -> bool {
+        let waits = self.common.waits.load(Ordering::SeqCst);
+        self.common
+            .waits
+            .store(waits.saturating_sub(1), Ordering::SeqCst);
+        waits == 0
+    }
+
+    /// Help didn't pay: the next trial waits for twice as long as this one did.
+    pub(crate) fn trial_failed(&self) {
+        let pause = self.common.pause.load(Ordering::SeqCst);
+        let next = pause.saturating_mul(2).min(LONGEST_PAUSE);
+        self.common.waits.store(pause, Ordering::SeqCst);
+        self.common.pause.store(next, Ordering::SeqCst);
+    }
+
+    /// Help pays: once it is over it is tried anew.
+    pub(crate) fn trial_paid(&self) {
+        self.common.waits.store(0, Ordering::SeqCst);
+        self.common.pause.store(FIRST_PAUSE, Ordering::SeqCst);
     }
 
     /// Whether this worker is the lookout, which it becomes where nobody is.

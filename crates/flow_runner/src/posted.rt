@@ -9,7 +9,7 @@ use crate::lines::Lines;
 use crate::rest::Rest;
 use crate::server::Server;
 use crate::stint::Stint;
-use crate::watch::pop_at;
+use crate::watch::{Watch, pop_at};
 use crate::work::tend;
 use flow_component::{Component, Gate};
 use flow_floor::Floor;
@@ -60,7 +60,8 @@ fn tend_one<K: Component, G: Gate, R: Wait>(
     ensures pushes { PushesHome (posts_of lines.now) server.old server.new }
     ensures spends { Spends (turns_of server.old.worker) stint.old.left (turns_of server.new.worker) stint.new.left }
 {
-    server.watch.begins(lines);
+    server.watch.begins(lines, process);
+    stint.tends(process);
     let own = server.watch.number;
     tend(
         rt,
@@ -72,6 +73,14 @@ fn tend_one<K: Component, G: Gate, R: Wait>(
         gate,
         stint,
     )
+}
+
+/// Rests: for longer each time, or for as long as a trial asks for. It tells how many microseconds it slept.
+fn rest_on<R: Wait>(rt: &R, lines: &Lines, watch: &Watch, rest: &mut Rest) -> u64 {
+    match watch.nap() {
+        Some(micros) => lines.bell.nap(rt, micros),
+        None => rest.go_on(rt, &lines.bell),
+    }
 }
 
 /// Tends the next process. Where there is none, or it had to be left, the worker rests; but true, and no rest: it read 0, so no process will ever have a
@@ -112,7 +121,7 @@ fn tend_next<K: Component, G: Gate, R: Wait>(
                 return true;
             }
             server.watch.rests(lines);
-            *slept = rest.go_on(rt, &lines.bell);
+            *slept = rest_on(rt, lines, &server.watch, rest);
             false
         }
     }

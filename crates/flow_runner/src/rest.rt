@@ -70,6 +70,11 @@ impl Bell {
         self.sleepers.fetch_sub(1, Ordering::SeqCst);
         self.calls.load(Ordering::SeqCst) == calls
     }
+
+    /// Sleeps so many microseconds at most. How many it slept at least; 0 where that isn't known, since somebody was called.
+    pub(crate) fn nap<R: Wait>(&self, rt: &R, micros: u64) -> u64 {
+        if self.sleep(rt, micros) { micros } else { 0 }
+    }
 }
 
 /// How one worker gives way to the others while it finds nothing: by idle loops, then to the system, and then in sleeps, each twice as long as the
@@ -106,9 +111,8 @@ impl Rest {
     {
         if self.backoff.is_completed() {
             let micros = self.next_sleep;
-            let whole = bell.sleep(rt, micros);
             self.next_sleep = (2 * micros).min(LONGEST);
-            if whole { micros } else { 0 }
+            bell.nap(rt, micros)
         } else {
             self.backoff.snooze();
             0

@@ -3,9 +3,10 @@ ghost use Rattle.flow_runner.specs.Posts.{posts_of};
 ghost use Rattle.std.specs.Prelude.{◌≡◌, ◌+◌, ◌<◌, ◌≤◌, length};
 
 use crate::lines::{Lines, Post};
+use crate::paces::Pace;
 use crate::tuned::{BURST_LIMIT, BURSTS_OF_A_LENGTH, CALLS_UP_TO};
 
-/// Where a worker that isn't alone tells how many turns it made, and is told how many of them its bursts should have.
+/// Where a worker that isn't alone tells how many turns it made, and is told how many of them its bursts have.
 #[derive(Clone, Copy)]
 pub(crate) struct Home<'a> {
     post: &'a Post,
@@ -23,7 +24,30 @@ pub(crate) struct Stint<'a> {
     /// How many turns were made.
     turns: u64,
     home: Option<Home<'a>>,
+    /// That of the process which is tended.
+    pace: Option<&'a Pace>,
     pub ghost least: { 1 ≤ burst },
+}
+
+/// As many turns as the bursts of this worker are to have, or as they have where nobody tells it.
+fn told(home: Option<Home<'_>>, burst: u32) -> u32
+    requires { 1 ≤ burst }
+    ensures { 1 ≤ result }
+{
+    match home {
+        Some(home) => home.post.burst(),
+        None => burst,
+    }
+}
+
+/// As many turns as a burst of this pace may have.
+fn paced(pace: Option<&Pace>) -> u32
+    ensures { 1 ≤ result }
+{
+    match pace {
+        Some(pace) => pace.burst(),
+        None => BURST_LIMIT,
+    }
 }
 
 impl<'a> Stint<'a> {
@@ -37,10 +61,11 @@ impl<'a> Stint<'a> {
             bursts: 0,
             turns: 0,
             home: None,
+            pace: None,
         }
     }
 
-    /// A worker at the post of this number, where there are several: its bursts are short until it knows more.
+    /// A worker at the post of this number: where there are several, its bursts are as long as it is told there, and as the processes may make them.
     pub(crate) fn among(left: u64, lines: &'a Lines, number: usize) -> Stint<'a>
         requires { number < length (posts_of lines.now) }
         ensures { result.left ≡ left }
@@ -55,33 +80,42 @@ impl<'a> Stint<'a> {
             bursts: 0,
             turns: 0,
             home: Some(Home { post, lines }),
+            pace: None,
+        }
+    }
+
+    /// This process is tended from now on.
+    pub(crate) fn tends(&mut self, process: u32)
+        ensures { self.new.left ≡ self.old.left }
+    {
+        if let Some(home) = self.home {
+            self.pace = home.lines.pace(process as u64);
         }
     }
 
     /// How many turns the next burst may have.
-    pub(crate) fn next(&self) -> u32
-        requires { 1 ≤ self.now.left }
+    pub(crate) fn next(&mut self) -> u32
+        requires { 1 ≤ self.old.left }
         ensures least { 1 ≤ result }
-        ensures most { result ≤ self.now.left }
+        ensures most { result ≤ self.new.left }
+        ensures left { self.new.left ≡ self.old.left }
     {
+        self.burst = told(self.home, self.burst).min(paced(self.pace));
         self.left.min(self.burst as u64) as u32
     }
 
-    /// How long bursts are from now on: as was told, or twice as long as before, where nobody rests who could tell, and that was so for a while.
-    fn hears(&mut self, home: Home<'a>)
+    /// Where nobody rests who could tell how long bursts should be, and that was so for a while, they are twice as long from now on.
+    fn lengthens(&mut self, home: Home<'a>)
         ensures { self.new.left ≡ self.old.left }
     {
-        let told = home.post.burst();
-        if told > 0 {
-            home.post.set_burst(0);
-            self.burst = told.min(BURST_LIMIT as u64) as u32;
-            self.bursts = 0;
+        self.bursts = self.bursts.saturating_add(1);
+        if self.bursts < BURSTS_OF_A_LENGTH {
             return;
         }
-        self.bursts = self.bursts.saturating_add(1);
-        if self.bursts >= BURSTS_OF_A_LENGTH && !home.lines.bell.somebody_sleeps() {
-            self.burst = self.burst.saturating_mul(2).min(BURST_LIMIT);
-            self.bursts = 0;
+        self.bursts = 0;
+        let burst = home.post.burst();
+        if burst < BURST_LIMIT && !home.lines.bell.somebody_sleeps() {
+            home.post.set_burst(burst as u64 * 2);
         }
     }
 
@@ -96,9 +130,12 @@ impl<'a> Stint<'a> {
         };
         self.turns = self.turns.wrapping_add(count as u64);
         home.post.set_turns(self.turns);
+        if let Some(pace) = self.pace {
+            pace.made(count);
+        }
         if pushed && self.burst <= CALLS_UP_TO {
             home.lines.call();
         }
-        self.hears(home);
+        self.lengthens(home);
     }
 }

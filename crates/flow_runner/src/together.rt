@@ -2,12 +2,13 @@
 ghost use Rattle.flow_floor.specs.Floors.{HasReadZero, HasSameShare, IsCrewOf, IsIdleAt, IsNewWorker, process_count, turns_of};
 ghost use Rattle.flow_limits.specs.declared.TheConstants.{PROCESS_LIMIT, WORKER_LIMIT};
 ghost use Rattle.flow_runner.specs.Lines.{parts_of};
-ghost use Rattle.flow_runner.specs.Posts.{posts_of, ArePassesAt, AreLinesFor, AreRoomFor, IsAtPosts, IsPosted, Watches};
+ghost use Rattle.flow_runner.specs.Posts.{posts_of, ArePassesAt, AreLinesFor, AreRoomFor, IsAtPosts, IsPosted, PushesEach, Watches};
 ghost use Rattle.flow_runner.specs.Serving.{HasDone, HasServed, workers_at};
 ghost use Rattle.std.specs.Prelude.{◌≡◌, ◌+◌, ◌<◌, ◌≤◌, ℕ, All, IfErr, IfOk, IfSome, Option, [], length, vec_capacity};
 
 use crate::line::{Line, LinePass};
 use crate::lines::{Lines, Post};
+use crate::paces::Pace;
 use crate::posted::attend;
 use crate::readied::push_surely;
 use crate::server::Server;
@@ -102,6 +103,15 @@ fn watches_for(alloc: Global, workers: u32) -> Result<Vec<Watch>, AllocError>
     Ok(watches)
 }
 
+/// A pace for each process.
+fn paces_for(alloc: Global, processes: u32) -> Result<Vec<Pace>, AllocError> {
+    let mut paces = Vec::with_capacity(alloc, processes as usize)?;
+    for _process in 0..processes {
+        paces.push(Pace::new())?;
+    }
+    Ok(paces)
+}
+
 /// Takes all that the workers need.
 fn lay<K: Component>(alloc: Global, processes: u32, workers: u32) -> Result<Laid<K>, AllocError>
     requires processes { (1 ≤ processes) × (processes ≤ PROCESS_LIMIT) }
@@ -116,10 +126,11 @@ fn lay<K: Component>(alloc: Global, processes: u32, workers: u32) -> Result<Laid
     let servers = Vec::with_capacity(alloc, workers as usize)?;
     let back = Vec::with_capacity(alloc, workers as usize)?;
     let watches = watches_for(alloc, workers)?;
+    let paces = paces_for(alloc, processes)?;
     let (posts, firsts) = open_lines(alloc, processes, workers)?;
     let rows = rows_of(alloc, &posts, firsts, workers)?;
     Ok(Laid {
-        lines: Lines::new(posts),
+        lines: Lines::new(posts, paces),
         rows,
         watches,
         servers,
@@ -195,6 +206,7 @@ fn fill<R: Wait>(rt: &R, lines: &Lines, passes: &mut Vec<LinePass>, begins: &[u3
     requires room { AreRoomFor processes (posts_of lines.now) }
     requires passes { ArePassesAt (posts_of lines.now) passes.old.items }
     ensures passes { ArePassesAt (posts_of lines.now) passes.new.items }
+    ensures pushed { PushesEach processes passes.old.items passes.new.items }
 {
     for process in 0..processes {
         let at = first_line(begins, process, lines.posts.len());

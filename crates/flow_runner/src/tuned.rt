@@ -9,29 +9,44 @@ pub(crate) const BURST_LIMIT: u32 = 256;
 /// is little beside it.
 pub(crate) const BURST_MICROS: u64 = 20;
 
-/// Where nobody rests who could tell it how long its turns are, a worker makes twice as many turns a burst after so many bursts of one length.
+/// Bursts get no shorter at a time than to this part of their length. A worker from which the system took its processor for a while looks as one whose
+/// turns are long.
+pub(crate) const SHORTENED_BY: u64 = 4;
+
+/// Where nobody rests who could tell it how long its turns are, a worker makes twice as many turns a burst after so many bursts of one length. So does each
+/// process, where it isn't seen to be slow: to 32 turns a burst, which is more than connections of ten packets let it make, it takes some 500.
 pub(crate) const BURSTS_OF_A_LENGTH: u32 = 16;
+
+/// A process of which no turn was made over a whole sleep, though it was tended, makes so many whole turns before its bursts get longer. Where it is light
+/// after all, and the system had taken the processor from its worker, they cost some 50 microseconds, by reckoning: what the shortest sleep takes.
+pub(crate) const TURNS_AFTER_A_SLOW_ONE: u64 = 1_024;
 
 /// Where a burst has at most so many turns, those whom it made ready are worth waking a worker for: that takes some microseconds, and such turns ten.
 pub(crate) const CALLS_UP_TO: u32 = 2;
 
-/// Where a worker takes no more than one process in so many microseconds, others help it without a trial. A make of 100 takes one in 1.1 microseconds, and
-/// in 1.9 where the machine is slow; and loses by help.
-pub(crate) const HEAVY_MICROS: u64 = 3;
+/// Where a turn takes so many nanoseconds or more, others help without a trial. What crosses to another processor costs some two hundred.
+pub(crate) const HEAVY_NANOS: u64 = 1_000;
 
-/// Where it takes no more than one in so many, whether help pays is tried. This bound is reckoned and not measured.
-pub(crate) const TRIED_MICROS: u64 = 1;
+/// Where it takes so many, whether help pays is tried. The turns of a chain that only passes packets on take some thirty, where the machine isn't busy.
+pub(crate) const TRIED_NANOS: u64 = 45;
 
-/// Shorter sleeps, in microseconds, say too little of how fast a run goes: they last up to 60 microseconds longer than they are asked for.
-pub(crate) const SHORTEST_TRIAL: u64 = 200;
+/// A trial is made of sleeps of so many microseconds. Shorter ones say too little: each lasts up to 60 microseconds longer than it is asked for.
+pub(crate) const TRIAL_MICROS: u64 = 200;
 
-/// Help pays where so many eighths of the turns are made with it that are made without.
-pub(crate) const PAYING_EIGHTHS: u64 = 10;
+/// Help pays where so many eighths of the turns are made with it that are made without. Less isn't worth the processors, and on a busy machine the same
+/// worker is now faster and now slower by nearly as much.
+pub(crate) const PAYING_EIGHTHS: u64 = 12;
+
+/// A trial is given up where so many of its sleeps were cut short.
+pub(crate) const CUT_SLEEPS: u32 = 8;
+
+/// A run begins with so many sleeps before it tries anything: what begins is slower than what goes on.
+pub(crate) const BEFORE_TRIALS: u64 = 2;
 
 /// After a trial that failed the next one waits for so many sleeps, and then for twice as many each time, up to the greatest number.
-pub(crate) const FIRST_PAUSE: u32 = 8;
+pub(crate) const FIRST_PAUSE: u64 = 8;
 
-pub(crate) const LONGEST_PAUSE: u32 = 1_024;
+pub(crate) const LONGEST_PAUSE: u64 = 1_024;
 
 /// How many processes may be taken from others where that pays; twice as many each time that it is seen anew, up to the greatest number.
 pub(crate) const FIRST_HELPS: u64 = 64;

@@ -4,15 +4,17 @@ ghost use Rattle.std.specs.Prelude.{◌≡◌, ◌<◌, ◌≤◌, ℕ, IfOk, If
 
 use crate::judge::{Judge, Sight};
 use crate::line::LinePass;
-use crate::lines::{GONE, Lines};
+use crate::lines::{GONE, Lines, Post};
+use crate::tuned::TRIAL_MICROS;
 use std::alloc::{AllocError, Global};
 use std::sync::Wait;
 
-/// What one saw of a worker at its last look: its beat, and how many turns it had made.
+/// What one saw of a worker before a rest: its beat, how many turns it had made, and which process it tended.
 #[derive(Clone, Copy)]
 pub(crate) struct Seen {
     beat: u64,
     turns: u64,
+    process: u64,
 }
 
 /// What a worker knows of the others.
@@ -32,6 +34,16 @@ fn behind(number: usize, count: usize) -> usize
     ensures { result < count }
 {
     if number + 1 < count { number + 1 } else { 0 }
+}
+
+/// This worker was at work all the time and made no turn: where it tends the same process still, that is slow.
+fn slows(lines: &Lines, post: &Post, seen: Seen) {
+    if post.process() != seen.process {
+        return;
+    }
+    if let Some(pace) = lines.pace(seen.process) {
+        pace.slows();
+    }
 }
 
 /// The first process of this line, by this pass of it.
@@ -57,21 +69,29 @@ impl Watch {
     {
         Ok(Watch {
             number,
-            seen: vec![in alloc; Seen { beat: 0, turns: 0 }; workers]?,
+            seen: vec![in alloc; Seen {
+                beat: 0,
+                turns: 0,
+                process: 0
+            }; workers]?,
             judge: Judge::new(workers),
             beat: 0,
         })
     }
 
-    /// It begins with a process that it took.
+    /// It tends this process, which it took, and comes to work if it rested.
     #[inline(always)]
-    pub(crate) fn begins(&mut self, lines: &Lines)
+    pub(crate) fn begins(&mut self, lines: &Lines, process: u32)
         requires { Watches (posts_of lines.now) self.old }
         ensures watches { Watches (posts_of lines.now) self.new }
         ensures number { self.new.number ≡ self.old.number }
     {
-        if self.seen.len() > 1 {
-            self.beat = (self.beat | 1).wrapping_add(2);
+        if self.seen.len() < 2 {
+            return;
+        }
+        lines.posts[self.number].set_process(process);
+        if self.beat & 1 == 0 {
+            self.beat = self.beat.wrapping_add(1);
             lines.posts[self.number].set_beat(self.beat);
             lines.stops_looking(self.number as u64);
         }
@@ -84,7 +104,7 @@ impl Watch {
         ensures number { self.new.number ≡ self.old.number }
     {
         if self.beat & 1 == 1 {
-            self.beat = self.beat.wrapping_sub(1);
+            self.beat = self.beat.wrapping_add(1);
             lines.posts[self.number].set_beat(self.beat);
         }
         for worker in 0..self.seen.len() {
@@ -92,6 +112,7 @@ impl Watch {
             self.seen[worker] = Seen {
                 beat: post.beat(),
                 turns: post.turns(),
+                process: post.process(),
             };
         }
     }
@@ -103,7 +124,7 @@ impl Watch {
         lines.posts[self.number].set_beat(GONE);
     }
 
-    /// What it sees of the others behind a sleep of so many microseconds. Those at work it tells how long their bursts may be.
+    /// What it sees of the others behind a sleep of so many microseconds. It tells them how long their bursts may be.
     fn sees(&self, lines: &Lines, slept: u64) -> Sight
         requires watches { Watches (posts_of lines.now) self.now }
         requires slept { 1 ≤ slept }
@@ -112,13 +133,17 @@ impl Watch {
         for worker in 0..self.seen.len() {
             let post = &lines.posts[worker];
             let seen = self.seen[worker];
-            let beat = post.beat();
             let turns = post.turns().wrapping_sub(seen.turns);
-            let at_work = worker != self.number && beat & 1 == 1 && beat != GONE;
-            if at_work {
-                post.set_burst(sight.burst(turns));
+            let at_work = seen.beat & 1 == 1 && seen.beat != GONE && post.beat() == seen.beat;
+            let was = post.burst();
+            let burst = sight.burst(turns, at_work, was);
+            if burst != was as u64 {
+                post.set_burst(burst);
             }
-            sight.adds(turns, beat.wrapping_sub(seen.beat) / 2, at_work);
+            if at_work && turns == 0 {
+                slows(lines, post, seen);
+            }
+            sight.adds(turns, at_work);
         }
         sight
     }
@@ -131,11 +156,19 @@ impl Watch {
         ensures number { self.new.number ≡ self.old.number }
     {
         if !lines.looks_out(self.number as u64) {
+            self.judge.stands_aside();
             return;
         }
         let sight = self.sees(lines, slept);
-        if let Some(helps) = self.judge.decides(&sight, lines.may_help()) {
-            lines.set_helps(helps);
+        self.judge.judges(&sight, lines);
+    }
+
+    /// How long it sleeps next, where it tries whether help pays.
+    pub(crate) fn nap(&self) -> Option<u64> {
+        if self.judge.tries() {
+            Some(TRIAL_MICROS)
+        } else {
+            None
         }
     }
 
@@ -162,7 +195,7 @@ impl Watch {
         pop_at(rt, lines, other, passes)
     }
 
-    /// The first process of one of the lines of others from which it may take.
+    /// The first process of one of the lines of others from which it may take. Its bursts are as long then as they were there.
     fn take<R: Wait>(
         &self,
         rt: &R,
@@ -180,6 +213,8 @@ impl Watch {
         let mut other = behind(self.number, workers);
         for _step in 1..workers {
             if let Some(process) = self.take_at(rt, lines, passes, other, may_help) {
+                let burst = lines.posts[other].burst();
+                lines.posts[self.number].set_burst(burst as u64);
                 return Some(process);
             }
             other = behind(other, workers);
@@ -205,6 +240,11 @@ impl Watch {
     {
         if slept > 0 {
             self.judges(lines, slept);
+        } else if self.judge.tries() {
+            self.judge.was_cut_short(lines);
+        }
+        if self.judge.tries() {
+            return None;
         }
         let may_help = lines.may_help();
         if slept == 0 && !may_help {

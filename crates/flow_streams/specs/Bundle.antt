@@ -1,5 +1,5 @@
 -- The component that makes one packet of each substream.
-use Rattle.std.specs.Prelude.{◌≡◌, ℕ, ◌+◌, ◌-◌, ◌==◌, min, nat_lt, List, [], ◌∷◌, if◌then◌else◌}
+use Rattle.std.specs.Prelude.{◌≡◌, ℕ, ◌+◌, ◌-◌, ◌^◌, ◌==◌, min, nat_lt, List, [], ◌∷◌, if◌then◌else◌}
 use Rattle.flow_packet.specs.declared.packet.Kind.{Kind}
 use Rattle.flow_packet.specs.declared.packet.Kind.TheVariants.{Normal, Open, Close}
 use Rattle.flow_packet.specs.Tree.{Tree, id_of}
@@ -21,7 +21,7 @@ items = 105 ∷ 116 ∷ 101 ∷ 109 ∷ 115 ∷ []
 
 -- One level deeper. The depth stands still at its greatest value.
 abbrev pub deeper : ℕ → ℕ
-deeper depth = min (depth + 1) 4294967295
+deeper depth = min (depth + 1) (2 ^ 64 - 1)
 
 -- An Open packet begins a bundle: a Normal packet with its text.
 abbrev pub begins : Held → ℕ → Outcome Bundle

@@ -1,5 +1,5 @@
 -- The component that balances the load of its outputs: its state, its rule, and what it is ready for.
-use Rattle.std.specs.Prelude.{◌≡◌, ℕ, ◌+◌, ◌-◌, ◌<◌, Bool, [], min, zero, suc, nat_lt, if◌then◌else◌}
+use Rattle.std.specs.Prelude.{◌≡◌, ℕ, ◌+◌, ◌-◌, ◌^◌, ◌<◌, Bool, [], min, zero, suc, nat_lt, if◌then◌else◌}
 use Rattle.flow_packet.specs.declared.packet.Kind.{Kind}
 use Rattle.flow_packet.specs.declared.packet.Kind.TheVariants.{Normal, Open, Close}
 use Rattle.flow_packet.specs.Hands.{kind_at}
@@ -33,7 +33,7 @@ level_at output = Level (record { 0 = output })
 -- How many brackets are open behind a packet of this kind. The depth stands still at its greatest value.
 abbrev pub depth_after : Kind → ℕ → ℕ
 depth_after Normal depth = depth
-depth_after Open depth = min (depth + 1) 4294967295
+depth_after Open depth = min (depth + 1) (2 ^ 64 - 1)
 depth_after Close depth = depth - 1
 
 -- More than any level is.

@@ -18,7 +18,7 @@ pub(crate) const ITEMS: &[u8] = b"items";
 pub enum Bundle {
     Outside,
     /// So many brackets are open, and the packets are gathered in this bundle.
-    Inside { bundle: PacketId, depth: u32 },
+    Inside { bundle: PacketId, depth: u64 },
 }
 
 impl Bundle {
@@ -52,7 +52,7 @@ impl Bundle {
         hands: &mut Hands,
         bundle: PacketId,
         packet: PacketId,
-        depth: u32,
+        depth: u64,
     ) -> Result<Wish, Stop>
         requires two { HoldsTwo (held_of hands.old) bundle packet }
         ensures { Resumes (λ component held _ outcome. outcome ≡ gathers component held bundle packet depth) self.old hands.old Answer.Sent result self.new hands.new }

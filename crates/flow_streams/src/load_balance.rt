@@ -34,7 +34,7 @@ pub enum LoadPlace {
 #[derive(Drop)]
 pub struct LoadBalance {
     count: u32,
-    depth: u32,
+    depth: u64,
     chosen: u32,
     place: LoadPlace,
 }

@@ -1,9 +1,10 @@
 -- The readers of an end, of an entry and of a tape.
 use Rattle.flow_limits.specs.declared.TheConstants.{PROCESS_LIMIT, TAPE_LIMIT}
-use Rattle.std.proofs.Common.{◌≡◌, ℕ, ◌≤◌, ◌^◌, List, [], ◌∷◌, ◌++◌, length, Option, None, Ok, suc, zero, refl, arith}
+use Rattle.std.proofs.Common.{◌≡◌, ℕ, ◌≤◌, ◌^◌, List, [], ◌∷◌, ◌++◌, length, take, Option, None, Ok, suc, zero, refl, sym, ap, ◌∙◌, arith, length-append}
 use Rattle.std.specs.Prelude.{replicate}
 use Rattle.std.specs.Int.{w8, w32, w64}
 use Rattle.std.specs.List.{flat_map, AllByRecursion}
+use Rattle.std.proofs.lemmas.List.{take_at}
 use Rattle.flow_component.specs.declared.Answer.{Answer}
 use Rattle.flow_component.specs.declared.Answer.TheVariants as answers
 use Rattle.flow_component.specs.declared.Wish.{Wish}
@@ -16,9 +17,10 @@ use Rattle.flow_own.specs.declared.tape.Entry.{Entry}
 use Rattle.flow_own.specs.Acts.{Made}
 use Rattle.flow_own.specs.Recorded.{IsOfPart}
 use Rattle.flow_tape.specs.Files.{name}
-use Rattle.flow_tape.specs.Fields.{Field, Number, any_four, any_eight, answer_fields, made_fields, dropped_fields, end_fields, entry_fields, tape_fields, inner_fields}
-use Rattle.flow_tape.specs.Reading.{Read, ◌>>=◌, number_at, many_at, any_at, id_at, letters_at, send_at, end_with, end_by, end_at, answer_at, made_at, dropped_at, entry_at, tape_at, tapes_at}
-use Rattle.flow_tape.proofs.Readers.{Fits, Reads, matched-reads, joined_fields, AlsoAt, joined-reads, agreed-reads, given-reads}
+use Rattle.flow_tape.specs.Fields.{Field, Number, IsWhole, spelled, any_four, any_eight, answer_fields, made_fields, dropped_fields, end_fields, entry_fields, tape_fields, inner_fields}
+use Rattle.flow_own.specs.Reading.{Read, ◌>>=◌, number_at, many_at, any_at, id_at, send_at, end_with, end_by, end_at, answer_at, made_at, dropped_at, entry_at}
+use Rattle.flow_tape.specs.Reading.{letters_at, tape_at, tapes_at}
+use Rattle.flow_tape.proofs.Readers.{AreBytes, Fits, Reads, matched-reads, joined_fields, AlsoAt, joined-reads, agreed-reads, given-reads}
 use Rattle.flow_tape.proofs.FieldReaders.{wide32, number_fields, Any, number-reads}
 use Rattle.flow_tape.proofs.ManyReaders.{some-many, many-reads, letters_fields, letters-reads}
 use Rattle.flow_tape.proofs.ToldReaders.{any-reads, id-reads, case-reads, answer-reads, made-reads, dropped-reads}
@@ -249,6 +251,16 @@ some_entry = entry_of answers.Start None [] deactivates
 
 some_entry_fits : Fits entry_fields OfPart some_entry
 some_entry_fits = ((omega arith, (omega arith, (omega arith, (omega arith, tt)))), tt)
+
+-- Entries that are read with some bytes behind them hold what they may, and the bytes before those are theirs.
+pub entries-taken : (entries : List Entry) (own rest : List ℕ) → AreBytes (own ++ rest) → many_at entry_at (length entries) (own ++ rest) ≡ Ok (entries, rest)
+    → AllByRecursion IsWhole (flat_map entry_fields entries) × (own ≡ spelled (flat_map entry_fields entries))
+entries-taken entries own rest small e =
+    let r = many-reads entry_at entry_fields OfPart some_entry some_entry_fits entry-reads (length entries) in
+    let t = r.takes (own ++ rest) (entries, rest) small e in
+    let bytes : List ℕ = spelled (flat_map entry_fields entries) in
+    let long : length own ≡ length bytes = omega (arith, ap length t.1, length-append own rest, length-append bytes rest) in
+    (t.0.0, sym (take_at own rest (length own) refl) ∙ ap (take (length own)) t.1 ∙ take_at bytes rest (length own) (sym long))
 
 pub tape-reads : Reads tape_at tape_fields (AllByRecursion OfPart)
 unfolding tape_at

@@ -7,8 +7,10 @@ use Rattle.std.proofs.lemmas.Bool.{cases_lt, ltb-true, ltb-false, lt-ltb, le-ltb
 use Rattle.std.proofs.lemmas.List.{take_at, drop_at, take-append-drop, get_or-take, get_or_past, length-replicate}
 use Rattle.std.proofs.lemmas.Nat.{le_bytes_2, le_bytes_4, le_bytes_8, from_le_bytes-to_le_bytes_2, from_le_bytes-to_le_bytes_4, from_le_bytes-to_le_bytes_8}
 use Rattle.flow_tape.specs.Fields.{Field, Letter, Number, Text, spelled}
-use Rattle.flow_tape.specs.Reading.{Read, letter_at, number_at, text_at}
-use Rattle.flow_tape.proofs.Readers.{AreBytes, Fits, Lacks, short, other, FaultIn, Reads, ok_is, cut-one}
+use Rattle.flow_own.specs.Reading.{Read, number_at, text_at}
+use Rattle.flow_tape.specs.Reading.{letter_at}
+use Rattle.flow_own.proofs.Many.{ok_is}
+use Rattle.flow_tape.proofs.Readers.{AreBytes, Fits, Lacks, short, other, FaultIn, Reads, cut-one}
 
 -- the least value of a reader's result, where two tests come before it
 guards_ok : {A : Type 0} (a b : Bool) (m n : ℕ) (x y : A) → cond a (Err m) (cond b (Err n) (Ok x)) ≡ Ok y → (a ≡ false) × (b ≡ false) × (x ≡ y)

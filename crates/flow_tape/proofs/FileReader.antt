@@ -8,8 +8,10 @@ use Rattle.flow_own.specs.declared.tape.Entry.{Entry}
 use Rattle.flow_tape.specs.Files.{written}
 use Rattle.flow_tape.specs.Fields.{Field, Letter, Number, Text, Last, bytes_of, spelled, IsWhole, MayStand, inner_fields, fields_of}
 use Rattle.flow_tape.specs.Faults.{IsFileOf, Misses, ends, differs, IsFault, HasOneList, HasTapesOrFault, HasOneFault, BeginsNoFile}
-use Rattle.flow_tape.specs.Reading.{◌>>=◌, tapes_at, file_at}
-use Rattle.flow_tape.proofs.Readers.{AreBytes, Fits, Lacks, short, other, FaultIn, bind_ok, bind_err, ok_is, whole-join, whole-cut, cut-cases, cut-one}
+use Rattle.flow_own.specs.Reading.{◌>>=◌}
+use Rattle.flow_tape.specs.Reading.{tapes_at, file_at}
+use Rattle.flow_own.proofs.Many.{bind_ok, ok_is}
+use Rattle.flow_tape.proofs.Readers.{AreBytes, Fits, Lacks, short, other, FaultIn, bind_err, whole-join, whole-cut, cut-cases, cut-one}
 use Rattle.flow_tape.proofs.EntryReaders.{AreOfParts, tapes-reads}
 use Rattle.flow_tape.proofs.Spelling.{spelled-inner, of-parts, writable-of}
 

@@ -1,5 +1,5 @@
 -- Reading and writing one after the other, as loops do.
-use Rattle.std.proofs.Common.{◌≡◌, ℕ, suc, true, false, ◌-◌, ◌+◌, ◌≤◌, ◌<◌, eqb, List, [], ◌∷◌, ◌++◌, length, map, drop, get_or, Option, Some, Result, Ok, Err, refl, sym, ap, ◌∙◌, subst, append_assoc, append-nil, add-one, drop-cons, arith}
+use Rattle.std.proofs.Common.{◌≡◌, ℕ, Bool, cond, true, false, ◌+◌, ◌≤◌, ◌<◌, eqb, List, [], ◌∷◌, length, map, drop, get_or, Option, Some, Result, Ok, Err, refl, sym, ap, ◌∙◌, subst, add-one, drop-cons, arith}
 use Rattle.std.specs.Prelude.{OnOk}
 use Rattle.std.specs.List.{flat_map, AllByRecursion}
 use Rattle.std.proofs.lemmas.Bool.{eq-eqb, ne_eqb}
@@ -10,46 +10,12 @@ use Rattle.flow_packet.specs.declared.packet.Kind.TheVariants as kinds
 use Rattle.flow_own.specs.Acts.{Made}
 use Rattle.flow_own.specs.Recorded.{IsShort}
 use Rattle.flow_tape.specs.Files.{kind_byte}
-use Rattle.flow_tape.specs.declared.fault.Unread.{Unread}
-use Rattle.flow_tape.specs.declared.fault.Unread.TheVariants as stops
 use Rattle.flow_tape.specs.Fields.{Field, IsWhole, any_eight, made_fields}
-use Rattle.flow_tape.specs.Reading.{Read, ◌>>=◌, Stops, many_at, letter_at, letters_at}
+use Rattle.flow_own.specs.Reading.{Read, ◌>>=◌}
+use Rattle.flow_tape.specs.Reading.{letter_at, letters_at}
+use Rattle.flow_own.proofs.Many.{ok_is}
+use Rattle.flow_own.proofs.Suffixes.{EndsSo, LeavesEnd, given-ends, then-ends}
 use Rattle.flow_tape.proofs.Readers.{whole-join}
-
--- ---- many of the same sort
-
--- What was read before, and what is still read.
-abbrev pub with_front : {A : Type 0} → List A → Read (List A) → Read (List A)
-with_front front read = read >>= λ x. Ok (front ++ x.0, x.1)
-
-module _ {A : Type 0} (read : List ℕ → Read A) where
-  regroup : (front : List A) (a : A) (rest : Read (List A)) → with_front front (rest >>= λ x. Ok (a ∷ x.0, x.1)) ≡ with_front (front ++ a ∷ []) rest
-  regroup front a (Ok x) = ap (λ (xs : List A). Ok (xs, x.1)) (sym (append_assoc front (a ∷ []) x.0))
-  regroup front a (Err left) = refl
-
-  step : (front : List A) (count i : ℕ) (bytes : List ℕ) → i < count → with_front front (many_at read (count - i) bytes) ≡ with_front front (read bytes >>= λ first. many_at read (count - (i + 1)) first.1 >>= λ others. Ok (first.0 ∷ others.0, others.1))
-  unfolding many_at
-  step front count i bytes less =
-      let one_more : count - i ≡ suc (count - (i + 1)) = omega arith in
-      ap (λ (n : ℕ). with_front front (many_at read n bytes)) one_more
-
-  pub goes_on : (front : List A) (count i : ℕ) (bytes : List ℕ) (a : A) (after : List ℕ) (total : Read (List A)) → i < count → read bytes ≡ Ok (a, after) → with_front front (many_at read (count - i) bytes) ≡ total
-      → with_front (front ++ a ∷ []) (many_at read (count - (i + 1)) after) ≡ total
-  goes_on front count i bytes a after total less here so_far =
-      let rest : Read A → Read (List A) = λ r. with_front front (r >>= λ first. many_at read (count - (i + 1)) first.1 >>= λ others. Ok (first.0 ∷ others.0, others.1)) in
-      sym (step front count i bytes less ∙ ap rest here ∙ regroup front a (many_at read (count - (i + 1)) after)) ∙ so_far
-
-  pub stops_here : (stop : Unread) (front : List A) (count i : ℕ) (bytes : List ℕ) (total : Read (List A)) → i < count → Stops stop (read bytes) → with_front front (many_at read (count - i) bytes) ≡ total → Stops stop total
-  stops_here stops.NoMemory front count i bytes total less here so_far = tt
-  stops_here (stops.Fault left) front count i bytes total less here so_far =
-      let rest : Read A → Read (List A) = λ r. with_front front (r >>= λ first. many_at read (count - (i + 1)) first.1 >>= λ others. Ok (first.0 ∷ others.0, others.1)) in
-      sym so_far ∙ step front count i bytes less ∙ ap rest here
-
-  pub all_read : (front : List A) (count i : ℕ) (bytes : List ℕ) (total : Read (List A)) → count ≤ i → with_front front (many_at read (count - i) bytes) ≡ total → total ≡ Ok (front, bytes)
-  unfolding many_at
-  all_read front count i bytes total most so_far =
-      let none : count - i ≡ 0 = omega arith in
-      sym so_far ∙ ap (λ (n : ℕ). with_front front (many_at read n bytes)) none ∙ ap (λ (xs : List A). Ok (xs, bytes)) (append-nil front)
 
 -- ---- letters
 
@@ -86,6 +52,20 @@ letter_strays letters i first rest after total less front apart so_far =
 pub letters_read : (letters : List ℕ) (i : ℕ) (rest : List ℕ) (total : Read (Unit {0})) → length letters ≤ i → letters_at (drop i letters) rest ≡ total → total ≡ Ok (tt, rest)
 unfolding letters_at
 letters_read letters i rest total most so_far = sym so_far ∙ ap (λ (ls : List ℕ). letters_at ls rest) (drop_all i letters most)
+
+letter-ends : (letter : ℕ) → LeavesEnd (letter_at letter)
+letter-ends letter [] x e = absurd cc
+letter-ends letter (byte ∷ bytes) x e = by (eqb byte letter) e
+  where
+    by : (b : Bool) → cond b (Ok (tt, bytes)) (Err (length (byte ∷ bytes))) ≡ Ok x → EndsSo x.1 (byte ∷ bytes)
+    by true read = subst (λ (y : Unit {0} × List ℕ). EndsSo y.1 (byte ∷ bytes)) (ok_is (tt, bytes) x read) (record { front = 1; within = omega arith; is = refl })
+    by false read = absurd cc
+
+-- Behind the letters is an end of the bytes.
+pub letters-end : (letters : List ℕ) → LeavesEnd (letters_at letters)
+unfolding letters_at
+letters-end [] = given-ends tt
+letters-end (letter ∷ letters) = then-ends (letter_at letter) (λ u. letters_at letters) (letter-ends letter) (λ u. letters-end letters)
 
 -- ---- fields that hold what they may
 

@@ -3,7 +3,8 @@ use Rattle.std.proofs.Common.{◌≡◌, ℕ, List, [], ◌∷◌, length, map, 
 use Rattle.std.specs.Prelude.{replicate}
 use Rattle.std.specs.List.{flat_map, AllByRecursion}
 use Rattle.flow_tape.specs.Fields.{Field, Letter, IsWhole}
-use Rattle.flow_tape.specs.Reading.{Read, ◌>>=◌, letter_at, letters_at, many_at}
+use Rattle.flow_own.specs.Reading.{Read, ◌>>=◌, many_at}
+use Rattle.flow_tape.specs.Reading.{letter_at, letters_at}
 use Rattle.flow_tape.proofs.Readers.{Fits, Reads, whole-join, matched-reads, joined_fields, AlsoAt, Joins, joined-reads, agreed-reads, given-reads}
 use Rattle.flow_tape.proofs.FieldReaders.{Any, letter_fields, letter-reads}
 

@@ -2,8 +2,9 @@
 use Rattle.std.proofs.Common.{◌≡◌, ◌⊎◌, inl, inr, ℕ, ◌<◌, ◌≤◌, List, [], ◌∷◌, ◌++◌, length, get_or, Result, Ok, Err, suc, refl, ap, sym, ◌∙◌, subst, append_assoc}
 use Rattle.std.specs.List.{AllByRecursion}
 use Rattle.std.proofs.lemmas.List.Concat.{flat_map-append}
+use Rattle.flow_own.proofs.Many.{bind_ok, ok_is}
 use Rattle.flow_tape.specs.Fields.{Field, bytes_of, spelled, IsWhole, MayStand}
-use Rattle.flow_tape.specs.Reading.{Read, ◌>>=◌}
+use Rattle.flow_own.specs.Reading.{Read, ◌>>=◌}
 
 -- These are bytes.
 abbrev pub AreBytes : List ℕ → Type 0
@@ -37,21 +38,10 @@ pub record Reads {A : Type 0} (read : List ℕ → Read A) (fields : A → List 
   pub faults : (bytes : List ℕ) (left : ℕ) → AreBytes bytes → read bytes ≡ Err left → FaultIn fields Also bytes left
   pub exact : (bytes : List ℕ) (left : ℕ) → FaultIn fields Also bytes left → read bytes ≡ Err left
 
--- the value of a step that did not stop
-pub bind_ok : {A B : Type 0} (r : Result A ℕ) (f : A → Result B ℕ) (y : B) → (r >>= f) ≡ Ok y → (x : A) × (r ≡ Ok x) × (f x ≡ Ok y)
-bind_ok (Ok x) f y e = (x, refl, e)
-bind_ok (Err left) f y e = absurd cc
-
 -- the first of two steps stopped, or the second did
 pub bind_err : {A B : Type 0} (r : Result A ℕ) (f : A → Result B ℕ) (left : ℕ) → (r >>= f) ≡ Err left → (r ≡ Err left) ⊎ ((x : A) × (r ≡ Ok x) × (f x ≡ Err left))
 bind_err (Ok x) f left e = inr (x, refl, e)
 bind_err (Err at) f left e = inl (let same : at ≡ left = cc in ap (λ (n : ℕ). Err n) same)
-
-abbrev done : {A : Type 0} → A → Result A ℕ
-done x = Ok x
-
-pub ok_is : {A : Type 0} (x y : A) → done x ≡ done y → x ≡ y
-ok_is x y e = cc
 
 -- what stands behind the front of bytes is of bytes
 pub bytes-after : (front bytes : List ℕ) → AreBytes (front ++ bytes) → AreBytes bytes

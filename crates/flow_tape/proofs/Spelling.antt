@@ -1,6 +1,6 @@
 -- The fields of a file are the file; and tapes that fit their fields are those that have a file.
 use Rattle.flow_limits.specs.declared.TheConstants.{PROCESS_LIMIT}
-use Rattle.std.proofs.Common.{◌≡◌, ℕ, ◌≤◌, List, [], ◌∷◌, ◌++◌, length, map, slice_get, Option, Some, None, suc, zero, refl, ap, sym, ◌∙◌, subst, append_assoc, append-nil}
+use Rattle.std.proofs.Common.{◌≡◌, ℕ, ◌≤◌, List, [], ◌∷◌, ◌++◌, length, map, slice_get, Option, Some, None, Ok, suc, zero, refl, ap, sym, ◌∙◌, subst, append_assoc, append-nil}
 use Rattle.std.specs.Int.{w16, w32, to_le_bytes}
 use Rattle.std.specs.List.{flat_map, AllByRecursion}
 use Rattle.std.proofs.lemmas.List.Concat.{flat_map-append}
@@ -18,9 +18,10 @@ use Rattle.flow_own.specs.Recorded.{IsShort, IsEntryWritable, IsTapeWritable}
 use Rattle.flow_tape.specs.Files.{name, four, eight, answer_written, made_written, dropped_written, end_written, entry_written, tape_written, written, IsWritable}
 use Rattle.flow_tape.specs.Fields.{Field, Letter, Number, Last, bytes_of, spelled, IsWhole, any_eight, answer_fields, made_fields, dropped_fields, end_fields, entry_fields, tape_fields, inner_fields, fields_of}
 use Rattle.flow_tape.specs.Faults.{AreCutUp}
-use Rattle.flow_tape.proofs.Readers.{Fits, whole-join, whole-cut}
+use Rattle.flow_own.specs.Reading.{many_at, entry_at}
+use Rattle.flow_tape.proofs.Readers.{AreBytes, Fits, whole-join, whole-cut}
 use Rattle.flow_tape.proofs.ManyReaders.{whole-letters}
-use Rattle.flow_tape.proofs.EntryReaders.{OfPart, AreOfParts}
+use Rattle.flow_tape.proofs.EntryReaders.{OfPart, AreOfParts, entries-taken}
 
 -- ---- the fields are the file
 
@@ -75,6 +76,13 @@ spelled-entry entry =
 spelled-each : {X : Type 0} (fields : X → List Field) (bytes : X → List ℕ) → ((x : X) → spelled (fields x) ≡ bytes x) → (xs : List X) → spelled (flat_map fields xs) ≡ flat_map bytes xs
 spelled-each fields bytes each [] = refl
 spelled-each fields bytes each (x ∷ xs) = flat_map-append bytes_of (fields x) (flat_map fields xs) ∙ (λ i. each x i ++ spelled-each fields bytes each xs i)
+
+-- Entries that are read with some bytes behind them are written as the bytes before those.
+pub entries-written : (entries : List Entry) (own rest : List ℕ) → AreBytes (own ++ rest) → many_at entry_at (length entries) (own ++ rest) ≡ Ok (entries, rest)
+    → AllByRecursion IsWhole (flat_map entry_fields entries) × (own ≡ flat_map entry_written entries)
+entries-written entries own rest small e =
+    let t = entries-taken entries own rest small e in
+    (t.0, t.1 ∙ spelled-each entry_fields entry_written spelled-entry entries)
 
 spelled-tape : (tape : List Entry) → spelled (tape_fields tape) ≡ tape_written tape
 spelled-tape tape = ap (λ (bs : List ℕ). four (length tape) ++ bs) (spelled-each entry_fields entry_written spelled-entry tape)
@@ -138,3 +146,26 @@ writable-of tapes fits =
 pub whole-file : (tapes : List (List Entry)) → length tapes ≤ PROCESS_LIMIT → AllByRecursion IsWhole (flat_map tape_fields tapes) → AllByRecursion IsWhole (fields_of tapes)
 whole-file tapes few whole =
     whole-join (inner_fields tapes) (Last ∷ []) (whole-join (map Letter name) (Number w32 PROCESS_LIMIT (length tapes) ∷ flat_map tape_fields tapes) (whole-letters name) (few, whole)) (tt, tt)
+
+-- ---- tapes in two parts
+
+-- The bytes of two lists are of bytes.
+pub bytes-both : (a b : List ℕ) → AreBytes a → AreBytes b → AreBytes (a ++ b)
+bytes-both [] b first second i = second i
+bytes-both (x ∷ a) b first second zero = first 0
+bytes-both (x ∷ a) b first second (suc i) = bytes-both a b (λ k. first (suc k)) second i
+
+-- The entries behind others have a place in a file where all have.
+pub writable-behind : (front entries : List Entry) → ((k : ℕ) (entry : Entry) → slice_get (front ++ entries) k ≡ Some entry → IsEntryWritable entry)
+    → (k : ℕ) (entry : Entry) → slice_get entries k ≡ Some entry → IsEntryWritable entry
+writable-behind [] entries each = each
+writable-behind (x ∷ front) entries each = writable-behind front entries (λ k entry is. each (suc k) entry is)
+
+-- So are they written one behind the other.
+pub written-both : (front entries tape : List Entry) → tape ≡ front ++ entries → flat_map entry_written tape ≡ flat_map entry_written front ++ flat_map entry_written entries
+written-both front entries tape is = ap (flat_map entry_written) is ∙ flat_map-append entry_written front entries
+
+pub whole-both : (front entries tape : List Entry) → tape ≡ front ++ entries → AllByRecursion IsWhole (flat_map entry_fields front) → AllByRecursion IsWhole (flat_map entry_fields entries)
+    → AllByRecursion IsWhole (flat_map entry_fields tape)
+whole-both front entries tape is first second =
+    subst (AllByRecursion IsWhole) (sym (ap (flat_map entry_fields) is ∙ flat_map-append entry_fields front entries)) (whole-join (flat_map entry_fields front) (flat_map entry_fields entries) first second)

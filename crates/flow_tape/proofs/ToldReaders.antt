@@ -13,7 +13,7 @@ use Rattle.flow_component.specs.declared.Answer.TheVariants as answers
 use Rattle.flow_own.specs.Acts.{Made}
 use Rattle.flow_tape.specs.Files.{kind_byte}
 use Rattle.flow_tape.specs.Fields.{Field, Number, Text, any_four, any_eight, answer_fields, made_fields, dropped_fields}
-use Rattle.flow_tape.specs.Reading.{Read, ◌>>=◌, number_at, text_at, many_at, any_at, id_at, answer_by, answer_at, kind_by, packet_at, made_at, dropped_at}
+use Rattle.flow_own.specs.Reading.{Read, ◌>>=◌, number_at, text_at, many_at, any_at, id_at, answer_by, answer_at, kind_by, packet_at, made_at, dropped_at}
 use Rattle.flow_tape.proofs.Readers.{Fits, Reads, matched-reads, joined_fields, AlsoAt, joined-reads, agreed-reads, given-reads}
 use Rattle.flow_tape.proofs.FieldReaders.{wide8, wide16, wide32, wide64, number_fields, Any, number-reads, text_fields, HasSize, text-reads, zeros-bytes}
 use Rattle.flow_tape.proofs.ManyReaders.{AreMany, some-many, many-reads}

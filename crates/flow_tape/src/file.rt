@@ -3,14 +3,17 @@
 ghost use Rattle.std.specs.Prelude.{◌≡◌, ◌++◌, ◌∷◌, ◌≤◌, ◌<◌, [], ℕ, List, Some, slice_get, length, map, OnOk, IfOk};
 ghost use Rattle.flow_own.specs.declared.tape.Entry.{Entry};
 ghost use Rattle.std.specs.List.{flat_map, AllByRecursion};
+ghost use Rattle.std.specs.Option.{option_copied};
 ghost use Rattle.flow_own.specs.Recorded.{IsShort, IsOfPart, IsEntryWritable, IsTapeWritable};
+ghost use Rattle.flow_own.specs.Reels.{reeled};
 ghost use Rattle.flow_tape.specs.Files.{four, eight, kind_byte, answer_written, made_written, dropped_written, end_written, entry_written, tape_written, IsWritable};
 ghost use Rattle.flow_tape.specs.Fields.{IsWhole, any_eight, answer_fields, made_fields, dropped_fields, end_fields, entry_fields, tape_fields};
 ghost use Rattle.flow_tape.specs.Faults.{IsFileOf};
 
+use crate::law::bytes_are_small;
 use flow_component::{Answer, OwnFail, Wish};
 use flow_items::Text;
-use flow_own::{End, Entry, Tape};
+use flow_own::{End, Entry, Reel, Tape};
 use flow_packet::{Kind, PacketId};
 use std::alloc::{AllocError, Global};
 
@@ -154,13 +157,35 @@ fn put_entries(bytes: &mut Vec<u8>, entries: &[Entry]) -> Result<(), AllocError>
     Ok(())
 }
 
+// Entries that were read from a file are written as they stand there.
+fn put_reel(bytes: &mut Vec<u8>, reel: &Reel) -> Result<(), AllocError>
+    ensures bytes { OnOk result (bytes.new.items ≡ bytes.old.items ++ flat_map entry_written reel.now) }
+    ensures whole { AllByRecursion IsWhole (flat_map entry_fields reel.now) }
+{
+    let (entries, behind) = reel.bytes();
+    bytes_are_small(entries);
+    bytes_are_small(behind);
+    put_text(bytes, entries)
+}
+
+fn put_read(bytes: &mut Vec<u8>, reel: Option<&Reel>) -> Result<(), AllocError>
+    ensures bytes { OnOk result (bytes.new.items ≡ bytes.old.items ++ flat_map entry_written (reeled (option_copied reel.entry))) }
+    ensures whole { AllByRecursion IsWhole (flat_map entry_fields (reeled (option_copied reel.entry))) }
+{
+    match reel {
+        Some(reel) => put_reel(bytes, reel),
+        None => Ok(()),
+    }
+}
+
 fn put_tape(bytes: &mut Vec<u8>, tape: &Tape) -> Result<(), AllocError>
     requires { IsTapeWritable tape.now }
     ensures bytes { OnOk result (bytes.new.items ≡ bytes.old.items ++ tape_written tape.now) }
     ensures whole { OnOk result (AllByRecursion IsWhole (tape_fields tape.now)) }
 {
-    let entries = tape.entries();
-    put_four(bytes, entries.len() as u32)?;
+    let (reel, entries) = tape.parts();
+    put_four(bytes, tape.len() as u32)?;
+    put_read(bytes, reel)?;
     put_entries(bytes, entries)
 }
 

@@ -1,188 +1,59 @@
 //! From the file of tapes to the tapes.
 
-ghost use Rattle.std.specs.Prelude.{◌≡◌, ◌≤◌, IfOk, IfErr, length};
+ghost use Rattle.std.specs.Prelude.{◌≡◌, ◌≤◌, ◌-◌, IfOk, IfErr, drop, length};
+ghost use Rattle.std.specs.Int.{w32};
+ghost use Rattle.flow_own.specs.Reading.{Gives, number_at, many_at};
 ghost use Rattle.flow_tape.specs.Faults.{IsFileOf, StopsReading};
-ghost use Rattle.flow_tape.specs.Reading.{Gives, many_at, id_at, answer_at, kind_by, made_at, packet_at, dropped_at, send_at, end_with, end_at, entry_at, tape_at, tapes_at, file_at};
+ghost use Rattle.flow_tape.specs.Files.{name};
+ghost use Rattle.flow_tape.specs.Reading.{letters_at, tape_at, tapes_at, file_at};
 
-use crate::fault::{TapeFault, TapeStop, Unread};
-use crate::fields::{any_of, eight_of, four_of, letters_of, one_of, text_of, two_of};
-use flow_component::{Answer, OwnFail, Port, Wish};
-use flow_items::{Items, Text};
-use flow_limits::{HANDS_LIMIT, PROCESS_LIMIT, TAPE_LIMIT, TEXT_LIMIT};
-use flow_own::{End, Entry, Tape};
-use flow_packet::{Kind, PacketId};
+use crate::fault::{TapeFault, TapeStop};
+use crate::law::bytes_are_small;
+use crate::letters::letters_of;
+use bytes::Bytes;
+use flow_limits::{PROCESS_LIMIT, TAPE_LIMIT};
+use flow_own::{Reel, Tape, Unread, four_of};
 use std::alloc::Global;
 
-#[tactic(auto, unfolding(crate::specs::Reading::answer_at))]
-fn answer_of(bytes: &[u8]) -> Result<(Answer, &[u8]), Unread>
-    ensures { Gives (λ x. (x.0, x.1.now)) result (answer_at bytes.now) }
+// The last so many of these bytes.
+fn last_of(bytes: Bytes, left: usize) -> Bytes
+    requires { left ≤ length bytes }
+    ensures { result ≡ drop (length bytes - left) bytes }
 {
-    let (case, rest) = one_of(bytes, 4)?;
-    match case {
-        0 => Ok((Answer::Start, rest)),
-        1 => {
-            let (id, rest) = eight_of(rest)?;
-            Ok((Answer::Got(PacketId::of_number(id)), rest))
-        }
-        2 => Ok((Answer::End, rest)),
-        3 => Ok((Answer::Sent, rest)),
-        _ => {
-            let (level, rest) = any_of(rest)?;
-            Ok((Answer::Level(level), rest))
-        }
-    }
+    let mut bytes = bytes;
+    bytes.advance(bytes.len() - left);
+    bytes
 }
 
-// The kind of this case, which isn't 0.
-fn kind_of(case: u8) -> Kind
-    ensures { result ≡ kind_by case }
+// The bytes behind the name.
+fn behind_name(bytes: Bytes) -> Result<Bytes, Unread>
+    ensures { Gives (λ rest. (tt, rest)) result (letters_at name bytes) }
 {
-    match case {
-        1 => Kind::Normal,
-        2 => Kind::Open,
-        _ => Kind::Close,
-    }
+    let left = letters_of(b"FLOWT001", bytes.as_slice())?.len();
+    Ok(last_of(bytes, left))
 }
 
-#[tactic(auto, unfolding(crate::specs::Reading::packet_at))]
-fn packet_of(
-    alloc: Global,
-    kind: Kind,
-    bytes: &[u8],
-) -> Result<(Option<(Kind, Text)>, &[u8]), Unread>
-    ensures { Gives (λ x. (x.0, x.1.now)) result (packet_at kind bytes.now) }
+// A number of four bytes that is no more than the most, and the bytes behind it.
+fn count_of(bytes: Bytes, most: u32) -> Result<(u32, Bytes), Unread>
+    ensures { Gives (λ x. x) result (number_at w32 most bytes) }
 {
-    let (size, rest) = four_of(bytes, TEXT_LIMIT as u32)?;
-    let (text, rest) = text_of(alloc, rest, size as usize)?;
-    Ok((Some((kind, text)), rest))
-}
-
-#[tactic(auto, unfolding(crate::specs::Reading::made_at))]
-fn made_of(alloc: Global, bytes: &[u8]) -> Result<(Option<(Kind, Text)>, &[u8]), Unread>
-    ensures { Gives (λ x. (x.0, x.1.now)) result (made_at bytes.now) }
-{
-    let (case, rest) = one_of(bytes, 3)?;
-    if case == 0 {
-        return Ok((None, rest));
-    }
-    packet_of(alloc, kind_of(case), rest)
-}
-
-// So many ids.
-fn ids_of(alloc: Global, count: u16, bytes: &[u8]) -> Result<(Vec<PacketId>, &[u8]), Unread>
-    ensures { Gives (λ x. (x.0.items, x.1.now)) result (many_at id_at count bytes.now) }
-{
-    let mut ids = Vec::new(alloc);
-    let mut rest = bytes;
-    for _ in 0..count {
-        let (id, after) = eight_of(rest)?;
-        ids.push(PacketId::of_number(id))?;
-        rest = after;
-    }
-    Ok((ids, rest))
-}
-
-#[tactic(auto, unfolding(crate::specs::Reading::dropped_at))]
-fn dropped_of(alloc: Global, bytes: &[u8]) -> Result<(Items<PacketId>, &[u8]), Unread>
-    ensures { Gives (λ x. (x.0, x.1.now)) result (dropped_at bytes.now) }
-{
-    let (count, rest) = two_of(bytes, HANDS_LIMIT as u16)?;
-    let (ids, rest) = ids_of(alloc, count, rest)?;
-    Ok((Items::of(ids), rest))
-}
-
-#[tactic(auto, unfolding(crate::specs::Reading::send_at))]
-fn send_of(bytes: &[u8]) -> Result<(End, &[u8]), Unread>
-    ensures { Gives (λ x. (x.0, x.1.now)) result (send_at bytes.now) }
-{
-    let (port, rest) = any_of(bytes)?;
-    let (id, rest) = eight_of(rest)?;
-    let wish = Wish::Send(Port(port), PacketId::of_number(id));
-    Ok((End::Wish(wish), rest))
-}
-
-// An end of one of the cases that have one number of four bytes.
-fn end_with_number(case: u8, number: u32) -> End
-    ensures { result ≡ end_with case number }
-{
-    match case {
-        0 => End::Wish(Wish::Receive(Port(number))),
-        2 => End::Wish(Wish::Level(Port(number))),
-        4 => End::Fail(OwnFail::Own(number)),
-        _ => End::Fail(OwnFail::Port(number)),
-    }
-}
-
-#[tactic(auto, unfolding(crate::specs::Reading::end_at))]
-fn end_of(bytes: &[u8]) -> Result<(End, &[u8]), Unread>
-    ensures { Gives (λ x. (x.0, x.1.now)) result (end_at bytes.now) }
-{
-    let (case, rest) = one_of(bytes, 7)?;
-    match case {
-        1 => send_of(rest),
-        3 => Ok((End::Wish(Wish::Deactivate), rest)),
-        5 => {
-            let (id, rest) = eight_of(rest)?;
-            Ok((End::Fail(OwnFail::Packet(id)), rest))
-        }
-        7 => Ok((End::Fail(OwnFail::TapeLimit), rest)),
-        _ => {
-            let (number, rest) = any_of(rest)?;
-            Ok((end_with_number(case, number), rest))
-        }
-    }
-}
-
-#[tactic(auto, unfolding(crate::specs::Reading::entry_at))]
-fn entry_of(alloc: Global, bytes: &[u8]) -> Result<(Entry, &[u8]), Unread>
-    ensures { Gives (λ x. (x.0, x.1.now)) result (entry_at bytes.now) }
-{
-    // Where a value with an id stands beside a slice, a `?` has no rule in the prover.
-    let (answer, rest) = match answer_of(bytes) {
-        Ok(read) => read,
-        Err(stop) => return Err(stop),
-    };
-    let (made, rest) = made_of(alloc, rest)?;
-    let (dropped, rest) = dropped_of(alloc, rest)?;
-    let (end, rest) = match end_of(rest) {
-        Ok(read) => read,
-        Err(stop) => return Err(stop),
-    };
-    let entry = Entry {
-        answer,
-        made,
-        dropped,
-        end,
-    };
-    Ok((entry, rest))
-}
-
-// So many entries.
-fn entries_of(alloc: Global, count: u32, bytes: &[u8]) -> Result<(Vec<Entry>, &[u8]), Unread>
-    ensures { Gives (λ x. (x.0.items, x.1.now)) result (many_at entry_at count bytes.now) }
-{
-    let mut entries = Vec::new(alloc);
-    let mut rest = bytes;
-    for _ in 0..count {
-        let (entry, after) = entry_of(alloc, rest)?;
-        entries.push(entry)?;
-        rest = after;
-    }
-    Ok((entries, rest))
+    let (count, rest) = four_of(bytes.as_slice(), most)?;
+    let left = rest.len();
+    Ok((count, last_of(bytes, left)))
 }
 
 #[tactic(auto, unfolding(crate::specs::Reading::tape_at))]
-fn tape_of(alloc: Global, bytes: &[u8]) -> Result<(Tape, &[u8]), Unread>
-    ensures { Gives (λ x. (x.0, x.1.now)) result (tape_at bytes.now) }
+fn tape_of(alloc: Global, bytes: Bytes) -> Result<(Tape, Bytes), Unread>
+    ensures { Gives (λ x. x) result (tape_at bytes) }
 {
-    let (count, rest) = four_of(bytes, TAPE_LIMIT as u32)?;
-    let (entries, rest) = entries_of(alloc, count, rest)?;
-    Ok((Tape::of(entries), rest))
+    let (count, rest) = count_of(bytes, TAPE_LIMIT as u32)?;
+    let (reel, rest) = Reel::read(alloc, count, rest)?;
+    Ok((Tape::of_reel(alloc, reel), rest))
 }
 
 // So many tapes.
-fn many_tapes_of(alloc: Global, count: u32, bytes: &[u8]) -> Result<(Vec<Tape>, &[u8]), Unread>
-    ensures { Gives (λ x. (x.0.items, x.1.now)) result (many_at tape_at count bytes.now) }
+fn many_tapes_of(alloc: Global, count: u32, bytes: Bytes) -> Result<(Vec<Tape>, Bytes), Unread>
+    ensures { Gives (λ x. (x.0.items, x.1)) result (many_at tape_at count bytes) }
 {
     let mut tapes = Vec::new(alloc);
     let mut rest = bytes;
@@ -196,18 +67,18 @@ fn many_tapes_of(alloc: Global, count: u32, bytes: &[u8]) -> Result<(Vec<Tape>, 
 
 // The tapes at the front, with the name before them.
 #[tactic(auto, unfolding(crate::specs::Reading::tapes_at))]
-fn tapes_of(alloc: Global, bytes: &[u8]) -> Result<(Vec<Tape>, &[u8]), Unread>
-    ensures { Gives (λ x. (x.0.items, x.1.now)) result (tapes_at bytes.now) }
+fn tapes_of(alloc: Global, bytes: Bytes) -> Result<(Vec<Tape>, Bytes), Unread>
+    ensures { Gives (λ x. (x.0.items, x.1)) result (tapes_at bytes) }
 {
-    let rest = letters_of(b"FLOWT001", bytes)?;
-    let (count, rest) = four_of(rest, PROCESS_LIMIT as u32)?;
+    let rest = behind_name(bytes)?;
+    let (count, rest) = count_of(rest, PROCESS_LIMIT as u32)?;
     many_tapes_of(alloc, count, rest)
 }
 
 // The tapes, with which the bytes end.
 #[tactic(auto, unfolding(crate::specs::Reading::file_at))]
-fn file_of(alloc: Global, bytes: &[u8]) -> Result<Vec<Tape>, Unread>
-    ensures { Gives (λ tapes. tapes.items) result (file_at bytes.now) }
+fn file_of(alloc: Global, bytes: Bytes) -> Result<Vec<Tape>, Unread>
+    ensures { Gives (λ tapes. tapes.items) result (file_at bytes) }
 {
     let (tapes, rest) = tapes_of(alloc, bytes)?;
     if !rest.is_empty() {
@@ -216,15 +87,32 @@ fn file_of(alloc: Global, bytes: &[u8]) -> Result<Vec<Tape>, Unread>
     Ok(tapes)
 }
 
-/// The tapes whose file this is.
+/// The tapes whose file this is. They share a copy of the bytes.
 pub fn from_bytes(alloc: Global, bytes: &[u8]) -> Result<Vec<Tape>, TapeStop>
     ensures file { IfOk result (λ tapes. IsFileOf tapes.items bytes.now) }
     ensures fault { IfErr result (StopsReading bytes.now) }
 {
+    match bytes.to_vec(alloc) {
+        Ok(bytes) => from_vec(alloc, bytes),
+        Err(_) => Err(TapeStop::NoMemory),
+    }
+}
+
+/// The tapes whose file this is. All of it is judged now, but no more is kept than the bytes, which the tapes share: an entry is read again
+/// when it is played.
+pub fn from_vec(alloc: Global, bytes: Vec<u8>) -> Result<Vec<Tape>, TapeStop>
+    ensures file { IfOk result (λ tapes. IsFileOf tapes.items bytes.items) }
+    ensures fault { IfErr result (StopsReading bytes.items) }
+{
+    let size = bytes.len();
+    bytes_are_small(&bytes);
+    let Ok(bytes) = Bytes::from_vec(bytes) else {
+        return Err(TapeStop::NoMemory);
+    };
     match file_of(alloc, bytes) {
         Ok(tapes) => Ok(tapes),
         Err(Unread::Fault(left)) => {
-            let place = bytes.len() - left;
+            let place = size - left;
             Err(TapeStop::Fault(TapeFault {
                 place: place as u64,
             }))

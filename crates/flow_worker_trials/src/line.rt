@@ -1,6 +1,4 @@
-//! The ready line, and the order in which it has processes served.
-use flow_component::NoGate;
-use flow_rig::{File, call_alone, call_by_workers};
+//! The ready line. (In which order processes are served that were woken rows tell.)
 use flow_runner::Line;
 use std::test::Fail;
 
@@ -19,44 +17,5 @@ fn a_line_gives_what_was_pushed_first(rt: HostRuntime) -> Result<(), Fail> {
     passes.push_reserved(pass);
     let left = line.close(&rt, passes);
     assert!(rt; left.is_empty());
-    Ok(())
-}
-
-/// A copy to two writers, of which the second one gets each line first.
-const COPIED: &[File<'static>] = &[
-    (
-        "net",
-        b"flow 1\nW(WriteLines)\nV(WriteLines)\n'i' -> FILE Read(ReadLines)\nRead OUT -> IN Copy(Copy)\nCopy OUT[0] -> IN V\nCopy OUT[1] -> IN W\n'w' -> FILE W\n'v' -> FILE V\n",
-    ),
-    ("i", b"x\n"),
-];
-
-/// Five turns of Read, nine of Copy, five of V and five of W: V was woken before W.
-const IN_LINE: &[u8] =
-    b"FLOWJ001\x18\0\0\0\0\0\0\0\x02\x02\x02\x02\x02\x03\x03\x03\x03\x03\x03\x03\x03\x03\x01\x01\x01\x01\x01\0\0\0\0\0";
-
-/// The last ten turns of one thread, which goes by the numbers: W comes before V.
-const IN_TURN: &[u8] = b"\0\0\0\0\0\x01\x01\x01\x01\x01";
-
-#[test]
-fn a_worker_serves_first_who_was_woken_first(rt: HostRuntime) -> Result<(), Fail> {
-    let line = &["--workers", "1", "--journal", "j", "net"];
-    let called = call_by_workers(&rt, rt.alloc(), line, COPIED, &NoGate)?;
-    assert_eq!(rt; called.status, 0);
-    assert!(rt; called.shelf.file("j") == Some(IN_LINE));
-    assert!(rt; called.shelf.file("v") == Some(b"x\n".as_slice()));
-    assert!(rt; called.shelf.file("w") == Some(b"x\n".as_slice()));
-    Ok(())
-}
-
-#[test]
-fn one_thread_goes_by_the_numbers(rt: HostRuntime) -> Result<(), Fail> {
-    let called = call_alone(
-        rt.alloc(),
-        &["--workers", "0", "--journal", "j", "net"],
-        COPIED,
-    )?;
-    assert_eq!(rt; called.status, 0);
-    assert!(rt; called.shelf.file("j").unwrap_or(b"").ends_with(IN_TURN));
     Ok(())
 }

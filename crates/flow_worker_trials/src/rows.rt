@@ -1,37 +1,12 @@
-//! Networks whose files and printed lines are known from elsewhere, by one worker and by four.
+//! Networks by one worker and by four, of whose runs more than one thing may come. (What is the same in every run rows
+//! tell.)
 use flow_component::NoGate;
-use flow_rig::{File, call_alone, call_by_workers};
-use std::test::Fail;
+use flow_rig::{Called, File, call_by_workers};
+use std::process::Abort;
 
 const ONE: &[&str] = &["--workers", "1", "net"];
 
 const FOUR: &[&str] = &["--workers", "4", "net"];
-
-const TELEGRAM: &[File<'static>] = &[
-    (
-        "net",
-        b"flow 1\n# the telegram problem\n'in.txt' -> FILE Read(ReadLines)\nRead OUT -> IN Words(Words)\nWords OUT->(20) IN Fill(Fill)\n'12' -> SIZE Fill\nFill OUT -> IN Write(WriteLines)\n'out.txt' -> FILE Write\n",
-    ),
-    ("in.txt", b"To be or not to be\nthat is the question\n"),
-];
-
-const TELEGRAM_REPORT: &[u8] =
-    b"verdict finished\nprocess Read ReadLines ended turns 6 made 2 dropped 0 left 0\nprocess Words Words ended turns 17 made 10 dropped 2 left 0\nprocess Fill Fill ended turns 19 made 4 dropped 10 left 0\nprocess Write WriteLines ended turns 8 made 0 dropped 4 left 0\nconnection Words.IN capacity 10 puts 2 takes 2 left 0\nconnection Fill.IN capacity 20 puts 10 takes 10 left 0\nconnection Write.IN capacity 10 puts 4 takes 4 left 0\ntotal turns 50 made 16 dropped 16 left 0\n";
-
-#[test]
-fn the_telegram_problem_by_workers(rt: HostRuntime) -> Result<(), Fail> {
-    for line in [ONE, FOUR] {
-        let called = call_by_workers(&rt, rt.alloc(), line, TELEGRAM, &NoGate)?;
-        assert_eq!(rt; called.printed.as_slice(), TELEGRAM_REPORT);
-        assert_eq!(rt; called.status, 0);
-        assert_eq!(rt; called.turns, 50);
-        assert!(rt;
-            called.shelf.file("out.txt")
-                == Some(b"To be or not\nto be that\nis the\nquestion\n".as_slice())
-        );
-    }
-    Ok(())
-}
 
 const MERGED: &[File<'static>] = &[
     (
@@ -43,7 +18,7 @@ const MERGED: &[File<'static>] = &[
 ];
 
 /// The merges that keep each reader's order.
-const MERGES: [&[u8]; 6] = [
+const MERGES: &[&[u8]] = &[
     b"a1\na2\nb1\nb2\n",
     b"a1\nb1\na2\nb2\n",
     b"a1\nb1\nb2\na2\n",
@@ -52,91 +27,23 @@ const MERGES: [&[u8]; 6] = [
     b"b1\nb2\na1\na2\n",
 ];
 
-#[test]
-fn two_readers_are_merged_by_workers(rt: HostRuntime) -> Result<(), Fail> {
-    for line in [ONE, FOUR] {
-        let called = call_by_workers(&rt, rt.alloc(), line, MERGED, &NoGate)?;
-        assert_eq!(rt; called.status, 0);
-        assert!(rt;
-            called
-                .printed
-                .ends_with(b"total turns 20 made 4 dropped 4 left 0\n")
-        );
-        let written = called.shelf.file("o");
-        assert!(rt; MERGES.into_iter().any(|merge| written == Some(merge)));
-    }
-    Ok(())
+fn check_merged(rt: &impl Abort, called: &Called) {
+    assert_eq!(rt; called.status, 0);
+    assert!(rt;
+        called
+            .printed
+            .ends_with(b"total turns 20 made 4 dropped 4 left 0\n")
+    );
+    let written = called.shelf.file("o").unwrap_or(b"");
+    assert!(rt; MERGES.iter().any(|merge| written == *merge));
 }
 
-/// A network that gets stuck: its files, its report, and how many turns were made.
-struct Stuck {
-    files: &'static [File<'static>],
-    report: &'static [u8],
-    turns: usize,
-}
-
-/// Two processes of which each waits for the other, and a copy of a file behind the file, over connections that are too small.
-const STUCK: [Stuck; 2] = [
-    Stuck {
-        files: &[(
-            "net",
-            b"flow 1\nA(Passthru) OUT -> IN B(Passthru)\nB OUT -> IN A\n",
-        )],
-        report: b"verdict deadlock\nprocess A Passthru idle turns 0 made 0 dropped 0 left 0\nprocess B Passthru idle turns 0 made 0 dropped 0 left 0\nconnection B.IN capacity 10 puts 0 takes 0 left 0\nconnection A.IN capacity 10 puts 0 takes 0 left 0\nblocked A dormant\nblocked B dormant\nwaits A for B at A.IN\nwaits B for A at B.IN\ntotal turns 0 made 0 dropped 0 left 0\n",
-        turns: 0,
-    },
-    Stuck {
-        files: &[
-            (
-                "net",
-                b"flow 1\n'i' -> FILE Read(ReadLines)\nRead OUT -> IN Copy(Copy)\nCopy OUT[0] -> (1) IN[0] Concat(Concat)\nCopy OUT[1] -> (1) IN[1] Concat\nConcat OUT -> IN Write(WriteLines)\n'o' -> FILE Write\n",
-            ),
-            ("i", b"a\nb\nc\n"),
-        ],
-        report: b"verdict deadlock\nprocess Read ReadLines ended turns 7 made 3 dropped 0 left 0\nprocess Copy Copy active turns 6 made 2 dropped 0 left 1\nprocess Concat Concat active turns 5 made 0 dropped 0 left 0\nprocess Write WriteLines active turns 3 made 0 dropped 2 left 0\nconnection Copy.IN capacity 10 puts 3 takes 2 left 1\nconnection Concat.IN[0] capacity 1 puts 2 takes 2 left 0\nconnection Concat.IN[1] capacity 1 puts 1 takes 0 left 1\nconnection Write.IN capacity 10 puts 2 takes 2 left 0\nblocked Copy full OUT[1]\nblocked Concat empty IN[0]\nblocked Write empty IN\nwaits Copy for Concat at Concat.IN[1]\nwaits Concat for Copy at Concat.IN[0]\nleft Read:1 in hands of Copy\nleft Read:2 in Copy.IN\nleft Read:0 in Concat.IN[1]\ntotal turns 21 made 5 dropped 2 left 3\n",
-        turns: 21,
-    },
-];
-
 #[test]
-fn a_stuck_network_tells_its_cycle_by_any_workers(rt: HostRuntime) -> Result<(), Fail> {
-    for stuck in &STUCK {
-        let alone = call_alone(rt.alloc(), &["net"], stuck.files)?;
-        let one = call_by_workers(&rt, rt.alloc(), ONE, stuck.files, &NoGate)?;
-        let four = call_by_workers(&rt, rt.alloc(), FOUR, stuck.files, &NoGate)?;
-        for called in [&alone, &one, &four] {
-            assert_eq!(rt; called.status, 4);
-            assert_eq!(rt; called.turns, stuck.turns);
-            assert_eq!(rt; called.printed.as_slice(), stuck.report);
-        }
+fn two_readers_are_merged_by_workers(rt: HostRuntime) {
+    for line in &[ONE, FOUR] {
+        let called = call_by_workers(&rt, rt.alloc(), *line, MERGED, &NoGate);
+        check_merged(&rt, &called.expect(&rt, "no call"));
     }
-    Ok(())
-}
-
-const BATCH: &[File<'static>] = &[
-    (
-        "net",
-        b"flow 1\n'm' -> FILE Masters(ReadLines)\n'd' -> FILE Details(ReadLines)\nMasters OUT -> IN[0] Collate(Collate)\nDetails OUT -> IN[1] Collate\n'2' -> FIELDS Collate\nCollate OUT -> IN Update(Update)\n'2' -> KEYLEN Update\nUpdate OUT -> IN New(WriteLines)\nUpdate REP -> IN Rep(WriteLines)\n'n' -> FILE New\n'r' -> FILE Rep\n",
-    ),
-    ("m", b"k1M10\nk2M5\n"),
-    ("d", b"k1+7\nk2-9\nk3N4\n"),
-];
-
-#[test]
-fn masters_are_updated_by_workers(rt: HostRuntime) -> Result<(), Fail> {
-    for line in [ONE, FOUR] {
-        let called = call_by_workers(&rt, rt.alloc(), line, BATCH, &NoGate)?;
-        assert_eq!(rt; called.status, 0);
-        assert_eq!(rt; called.turns, 68);
-        assert!(rt;
-            called
-                .printed
-                .ends_with(b"total turns 68 made 14 dropped 14 left 0\n")
-        );
-        assert!(rt; called.shelf.file("n") == Some(b"k1M17\nk2M5\nk3M4\n".as_slice()));
-        assert!(rt; called.shelf.file("r") == Some(b"k2-9\n".as_slice()));
-    }
-    Ok(())
 }
 
 const BALANCED: &[File<'static>] = &[
@@ -163,30 +70,55 @@ fn is_split(lines: &[u8], one: &[u8], other: &[u8]) -> bool {
     first == one.len() && second == other.len()
 }
 
-#[test]
-fn a_load_is_balanced_by_workers(rt: HostRuntime) -> Result<(), Fail> {
-    for line in [ONE, FOUR] {
-        let called = call_by_workers(&rt, rt.alloc(), line, BALANCED, &NoGate)?;
-        assert_eq!(rt; called.status, 0);
-        let one = called.shelf.file("o").unwrap_or(b"?");
-        let other = called.shelf.file("p").unwrap_or(b"?");
-        assert!(rt; is_split(b"a\nb\nc\nd\n", one, other));
-    }
-    Ok(())
+fn check_balanced(rt: &impl Abort, called: &Called) {
+    assert_eq!(rt; called.status, 0);
+    let one = called.shelf.file("o").unwrap_or(b"?");
+    let other = called.shelf.file("p").unwrap_or(b"?");
+    assert!(rt; is_split(b"a\nb\nc\nd\n", one, other));
 }
 
 #[test]
-fn a_make_is_the_same_by_workers(rt: HostRuntime) -> Result<(), Fail> {
-    let alone = call_alone(rt.alloc(), &["--make", "7"], &[])?;
-    assert!(rt; alone.printed.ends_with(b"output C 6\n"));
-    let called = call_by_workers(
-        &rt,
-        rt.alloc(),
-        &["--make", "7", "--workers", "4"],
-        &[],
-        &NoGate,
-    )?;
-    assert_eq!(rt; called.status, 0);
-    assert_eq!(rt; called.printed.as_slice(), alone.printed.as_slice());
-    Ok(())
+fn a_load_is_balanced_by_workers(rt: HostRuntime) {
+    for line in &[ONE, FOUR] {
+        let called = call_by_workers(&rt, rt.alloc(), *line, BALANCED, &NoGate);
+        check_balanced(&rt, &called.expect(&rt, "no call"));
+    }
+}
+
+const ONE_KEPT: &[&str] = &["--workers", "1", "--journal", "kept", "net"];
+
+const FOUR_KEPT: &[&str] = &["--workers", "4", "--journal", "kept", "net"];
+
+/// A and W are the first step, B and V the second.
+const STEPS: &[File<'static>] = &[
+    (
+        "net",
+        b"flow 2\n'i' -> FILE A(ReadLines)\nA OUT -> IN W(WriteLines)\n'o' -> FILE W\nW *OUT -> *IN B(ReadLines)\n'j' -> FILE B\nB OUT -> IN V(WriteLines)\n'p' -> FILE V\n",
+    ),
+    ("i", b"x\n"),
+    ("j", b"y\n"),
+];
+
+/// Whether the file of a journal has so many turns, and none of the first two processes behind one of the others.
+fn has_steps(journal: &[u8], turns: usize) -> bool {
+    let mut count: usize = 0;
+    let mut is_second = false;
+    for process in journal.iter().skip(16) {
+        count = count.saturating_add(1);
+        if *process >= 2 {
+            is_second = true;
+        } else if is_second {
+            return false;
+        }
+    }
+    count == turns
+}
+
+#[test]
+fn a_second_step_begins_behind_the_first_by_workers(rt: HostRuntime) {
+    for line in &[ONE_KEPT, FOUR_KEPT] {
+        let called = call_by_workers(&rt, rt.alloc(), *line, STEPS, &NoGate);
+        let called = called.expect(&rt, "no call");
+        assert!(rt; has_steps(called.shelf.file("kept").unwrap_or(b""), 21));
+    }
 }

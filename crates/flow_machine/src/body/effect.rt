@@ -59,8 +59,8 @@ fn closing_stage(outputs: &[Option<u32>], place: u32) -> Stage
 }
 
 /// The depth of an output after a packet of this kind.
-fn deepened(kind: Kind, depth: u32) -> u32
-    requires room { depth + 1 < 2 ^ 32 }
+fn deepened(kind: Kind, depth: u64) -> u64
+    requires room { depth + 1 < 2 ^ 64 }
     requires nests { IsTrue (nests kind depth) }
     ensures { result ≡ depth_after kind depth }
 {
@@ -72,7 +72,7 @@ fn deepened(kind: Kind, depth: u32) -> u32
 }
 
 /// The depth of an output to which a packet of this kind was sent, if one was.
-fn deepen(depths: &mut [u32], port: Port, kind: Option<Kind>)
+fn deepen(depths: &mut [u64], port: Port, kind: Option<Kind>)
     requires { CanDeepen depths.old port.0 kind }
     ensures { depths.new ≡ depths_sent depths.old port.0 kind }
 {

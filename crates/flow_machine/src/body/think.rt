@@ -39,7 +39,7 @@ fn fail_unnested(stage: &mut Stage, port: Port)
 /// Where a wish leaves a process: it can't send a close packet at depth 0, and can't receive while its hands are full. It answers the wish,
 /// where that is granted and receives or sends, as nearly all do.
 #[inline(always)]
-fn judge(stage: &mut Stage, depths: &[u32], hands: &Hands, wish: Wish) -> Option<Wish>
+fn judge(stage: &mut Stage, depths: &[u64], hands: &Hands, wish: Wish) -> Option<Wish>
     requires { SendsHeld hands.now.packets wish }
     ensures judged { stage.new ≡ judged depths.now (held_of hands.now) wish }
     ensures granted { IfSome result (λ granted. stage.new ≡ Wishing granted) }

@@ -11,4 +11,4 @@ returns-clause-resumes g c =
     let r = plays-resumes (own c.as_slice.result.now) c.args.place c.args.hands.now c.play.new.hands c.args.answer c.in_ok-end.end at c.in_ok-end.ensures.plays in
     let P : List ℕ → Type 0 = λ used. Resumes OwnNext (own_state (own used)) c.args.hands.now c.args.answer (result_by c.in_ok-end.end) (moved (own used) c.args.place) c.play.new.hands in
     let s : P c.self.inside.used = subst P c.as_slice.ensures r in
-    rw (sym c.self.view_is, c.result_of.ensures) s
+    rw (sym c.self.view_is, c.result_of.ensures, c.in_ok-end.ensures.same) s

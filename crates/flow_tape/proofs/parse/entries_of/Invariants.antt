@@ -1,7 +1,0 @@
-use Rattle.std.proofs.Common.{◌≡◌, ◌-◌}
-use Rattle.flow_tape.specs.Reading.{many_at, entry_at}
-use Rattle.flow_tape.proofs.Loops.{with_front}
-use Rattle.flow_tape.proofs.parse.entries_of.Given as goal
-
-abbrev pub invariant-loop : goal.invariant-loop
-invariant-loop l = with_front l.entries.items (many_at entry_at (l.count - l.counter) l.rest) ≡ many_at entry_at l.count l.bytes
