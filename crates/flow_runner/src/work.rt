@@ -121,7 +121,7 @@ fn try_turns<K: Component, G: Gate, R: Wait>(
     gate: &G,
     stint: &mut Stint,
 ) -> Attempt
-    requires left { 1 ≤ stint.old.left }
+    requires some { 1 ≤ stint.old.left }
     requires held { IsHeldAt K.rules floor.now worker.old held.old }
     requires wired { IsWiredAt floor.now held.old }
     requires line { IsLineFor floor.now line.now }
