@@ -70,7 +70,7 @@ impl Known {
 
     /// Before anything is written: what is kept of the run and would be written over the network or over an input is a
     /// fault. Its file isn't open yet, so it is asked by its name, and once more when it is open.
-    pub fn admit_kept<R: Files>(&self, rt: &R) -> io::Result<()> {
+    pub fn admit_kept<R: Files + Eprint>(&self, rt: &R) -> io::Result<()> {
         if !self.written.is_empty() {
             return Ok(());
         }
@@ -78,11 +78,22 @@ impl Known {
         self.admit_named(rt, Kept::Tapes, &self.tapes)
     }
 
-    fn admit_named<R: Files>(&self, rt: &R, kept: Kept, name: &Option<String>) -> io::Result<()> {
-        match name {
-            Some(name) => self.admit_as(kept, regular(rt.metadata(name.as_str()))),
-            None => Ok(()),
+    /// The fault comes at the first file that is to be written, and the report names that one: so the standard error
+    /// names this one.
+    fn admit_named<R: Files + Eprint>(
+        &self,
+        rt: &R,
+        kept: Kept,
+        name: &Option<String>,
+    ) -> io::Result<()> {
+        let Some(name) = name else {
+            return Ok(());
+        };
+        let admitted = self.admit_as(kept, regular(rt.metadata(name.as_str())));
+        if admitted.is_err() {
+            let _ = eprintln!(rt; "{name:?} may not be written over, so nothing is written");
         }
+        admitted
     }
 
     fn admit_as(&self, kept: Kept, file: Option<Identity>) -> io::Result<()> {

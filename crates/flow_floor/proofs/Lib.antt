@@ -50,6 +50,7 @@ pub mod Further
 pub mod Ahead
 pub mod Passing
 pub mod Bursting
+pub mod Gated
 pub mod Settling
 pub mod AllStamps
 pub mod Bursts

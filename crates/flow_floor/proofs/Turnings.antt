@@ -133,6 +133,11 @@ module _ {K : Type 0} where
   pub sent-may : (h h' : Held K) (port : Port) (packet : Tree) → SendsAt h.body.process.stage port → HandsOut h h' packet → IsEffectFor h'.body.process h'.body.leaving effects.Sent
   sent-may h h' port packet stage out = may-finish h.body h'.body port stage.0 packet stage.1 out.3
 
+  -- No turn was made by that.
+  pub sent-turns : (h h' : Held K) (port : Port) (packet : Tree) → SendsAt h.body.process.stage port → HandsOut h h' packet → h'.body.process.turns ≡ h.body.process.turns
+  sent-turns h h' port packet stage out =
+      ap (λ (b : BodyValue K). b.process.turns) (if_some (id_sent h.body.process.stage) (λ (id : ℕ). h'.body ≡ left_behind h.body packet id) stage.0 (ap id_sent stage.1) out.3)
+
   -- It has the room of its turn still.
   pub sent-roomy : (h h' : Held K) (port : Port) (packet : Tree) → SendsAt h.body.process.stage port → HandsOut h h' packet → HasRoom h.body → HasRoom h'.body
   sent-roomy h h' port packet stage out room =

@@ -3,6 +3,8 @@ use Rattle.std.specs.Prelude.{◌≡◌, ℕ, ◌+◌, ◌<◌, ◌≤◌, nat_l
 use Rattle.atomic_table.specs.Seated.{TableId}
 use Rattle.flow_plan.specs.declared.plan.Connection.{Connection}
 use Rattle.flow_component.specs.Laws.{Rules}
+use Rattle.flow_model.specs.declared.Stage.{Stage}
+use Rattle.flow_model.specs.declared.Stage.TheVariants as stages
 use Rattle.flow_model.specs.Events.{Event, Gets, Sends}
 use Rattle.flow_machine.specs.Values.{BodyValue, NetValue}
 use Rattle.flow_floor.specs.Made.{Below}
@@ -78,7 +80,18 @@ abbrev pub receivers_of : List Connection → Option End → List ℕ
 receivers_of plan (Some end) = if nat_lt 0 end.packets then receiver_at plan end.connection else []
 receivers_of plan None = []
 
+-- A work is to come at this stage, or the process has failed.
+abbrev pub OwesOrFailed : Stage → Type 0
+OwesOrFailed (stages.Told answer) = Unit {0}
+OwesOrFailed (stages.Failed cause) = Unit {0}
+OwesOrFailed stage = ⊥
+
 module _ {K : Type 0} where
+  -- The body made one turn more, after which a work is to come, unless the process failed by it.
+  pub record IsTurned (old new : BodyValue K) : Type 0 where
+    pub turns : new.process.turns ≡ old.process.turns + 1
+    pub owes : OwesOrFailed new.process.stage
+
   -- A burst made these turns, the first of them with this body.
   pub record ArePassed (began : BodyValue K) (turns : List (Move K)) : Type 0 where
     pub begins : BeginsWith began turns

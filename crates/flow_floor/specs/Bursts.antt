@@ -1,6 +1,6 @@
 -- What a call for a burst tells. Here n is the number of processes, m that of connections, `start` the net that was opened, and `limit` the most turns that
 -- were asked for.
-use Rattle.std.specs.Prelude.{◌≡◌, ℕ, ◌≤◌, List, [], ◌∷◌, ◌++◌, All, length, map}
+use Rattle.std.specs.Prelude.{◌≡◌, ℕ, ◌+◌, ◌<◌, ◌≤◌, List, [], ◌∷◌, ◌++◌, All, length, map}
 use Rattle.std.specs.List.{range_with_len}
 use Rattle.flow_component.specs.Laws.{Rules}
 use Rattle.flow_machine.specs.Values.{BodyValue, NetValue}
@@ -19,6 +19,25 @@ use Rattle.flow_floor.specs.Workers.{view}
 -- So many turns of process p, with the stamps from the first one on.
 abbrev pub turns_from : ℕ → ℕ → ℕ → List (ℕ × ℕ)
 turns_from p first count = map (λ (stamp : ℕ). (stamp, p)) (range_with_len first count)
+
+-- For each of the works that were to come after 1, 2 and more of `count` turns, but the last of them, some hands passed the gate, which was told how many
+-- turns their process had made by then, where it had made so many before the first.
+abbrev pub PassesBetween : (ℕ → ℕ → Type 0) → ℕ → ℕ → Type 0
+PassesBetween has_passed turns count = (k : ℕ) → 1 ≤ k → k < count → (maker : ℕ) × has_passed maker (turns + k)
+
+-- The turns of a burst, of which the first is made by this body, were made so.
+abbrev pub PassesInBurst : {K : Type 0} → (ℕ → ℕ → Type 0) → BodyValue K → Burst → Type 0
+PassesInBurst has_passed b (burst.Made first count) = PassesBetween has_passed b.process.turns count
+PassesInBurst has_passed b (burst.Busy c word) = Unit {0}
+PassesInBurst has_passed b (burst.Blocked block word) = Unit {0}
+PassesInBurst has_passed b (burst.Over over) = Unit {0}
+
+-- If turns were made it is one.
+abbrev pub IsOneAtMost : Burst → Type 0
+IsOneAtMost (burst.Made first count) = count ≡ 1
+IsOneAtMost (burst.Busy c word) = Unit {0}
+IsOneAtMost (burst.Blocked block word) = Unit {0}
+IsOneAtMost (burst.Over over) = Unit {0}
 
 module _ {K : Type 0} where
   -- The first of these turns, if there is one, is made by this body.

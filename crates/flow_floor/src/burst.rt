@@ -7,7 +7,8 @@ ghost use Rattle.flow_machine.specs.Nets.{SendsAt};
 ghost use Rattle.flow_machine.specs.Thoughts.{HasRoom, IsSet, PassesFirst};
 ghost use Rattle.flow_machine.specs.Values.{BodyValue};
 ghost use Rattle.flow_floor.specs.Law.{Rests};
-ghost use Rattle.flow_floor.specs.Bursting.{turns_at, GoesOn, IsEndAt};
+ghost use Rattle.flow_floor.specs.Bursting.{turns_at, GoesOn, IsEndAt, IsTurned, OwesOrFailed};
+ghost use Rattle.flow_floor.specs.Bursts.{IsOneAtMost, PassesBetween, PassesInBurst};
 ghost use Rattle.flow_floor.specs.Floors.{connection_count, woken_of, BurstsAt, IsHeldAt, IsInBurstAt, IsSameWorker, IsWiredAt, Readies};
 ghost use Rattle.flow_floor.specs.declared.floor.Floor.{Floor};
 
@@ -29,6 +30,7 @@ impl<K: Component> Held<K> {
         ensures process { self.new.process ≡ self.old.process }
         ensures wired { (f : Floor _) → IsWiredAt f self.old → IsWiredAt f self.new }
         ensures passed { PassesFirst (G.has_passed gate.now) self.old.body }
+        ensures gated { result ≡ true → OwesOrFailed self.old.body.process.stage → (maker : ℕ) × G.has_passed gate.now maker self.old.body.process.turns }
     {
         match self.think(gate) {
             Thought::Wishing => true,
@@ -59,6 +61,7 @@ impl<K: Component> Floor<K> {
         ensures burst { IsInBurstAt K.rules self.now began worker.new held.new ends.new }
         ensures goes { GoesOn worker.old worker.new }
         ensures one { result ≡ true → turns_at ends.new ≡ turns_at ends.old + 1 }
+        ensures turned { result ≡ true → IsTurned held.old.body held.new.body }
         ensures none { result ≡ false → (held.new ≡ held.old) × (turns_at ends.new ≡ turns_at ends.old) }
         ensures process { held.new.process ≡ held.old.process }
         ensures wired { IsWiredAt self.now held.old → IsWiredAt self.now held.new }
@@ -134,6 +137,7 @@ impl<K: Component> Floor<K> {
         ensures burst { IsInBurstAt K.rules self.now began worker.new held.new ends.new }
         ensures goes { GoesOn worker.old worker.new }
         ensures one { result ≡ true → turns_at ends.new ≡ turns_at ends.old + 1 }
+        ensures turned { result ≡ true → IsTurned held.old.body held.new.body }
         ensures none { result ≡ false → (held.new ≡ held.old) × (turns_at ends.new ≡ turns_at ends.old) }
         ensures process { held.new.process ≡ held.old.process }
         ensures wired { IsWiredAt self.now held.old → IsWiredAt self.now held.new }
@@ -168,6 +172,7 @@ impl<K: Component> Floor<K> {
         ensures burst { IsInBurstAt K.rules self.now began worker.new held.new ends.new }
         ensures goes { GoesOn worker.old worker.new }
         ensures one { result ≡ true → turns_at ends.new ≡ turns_at ends.old + 1 }
+        ensures turned { result ≡ true → IsTurned held.old.body held.new.body }
         ensures none { result ≡ false → (held.new ≡ held.old) × (turns_at ends.new ≡ turns_at ends.old) }
         ensures process { held.new.process ≡ held.old.process }
         ensures wired { IsWiredAt self.now held.new }
@@ -200,6 +205,7 @@ impl<K: Component> Floor<K> {
         ensures goes { GoesOn worker.old worker.new }
         ensures count { turns_at ends.new ≡ result }
         ensures most { result ≤ most }
+        ensures passed { PassesBetween (G.has_passed gate.now) held.old.body.process.turns result }
         ensures same { result ≡ 0 → held.new ≡ held.old }
         ensures process { held.new.process ≡ held.old.process }
         ensures wired { IsWiredAt self.now held.new }
@@ -238,6 +244,7 @@ impl<K: Component> Floor<K> {
         ensures held { IsHeldAt K.rules self.now worker.new held.new }
         ensures wired { IsWiredAt self.now held.new }
         ensures burst { (most : ℕ) → 1 ≤ most → BurstsAt K.rules self.now most held.old worker.old held.new worker.new result }
+        ensures one { IsOneAtMost result }
         ensures seat { IsSameWorker worker.old worker.new }
         ensures readies { Readies self.now worker.old worker.new }
     {
@@ -267,6 +274,7 @@ impl<K: Component> Floor<K> {
         ensures held { IsHeldAt K.rules self.now worker.new held.new }
         ensures wired { IsWiredAt self.now held.new }
         ensures burst { BurstsAt K.rules self.now most held.old worker.old held.new worker.new result }
+        ensures passed { PassesInBurst (G.has_passed gate.now) held.old.body result }
         ensures seat { IsSameWorker worker.old worker.new }
         ensures readies { Readies self.now worker.old worker.new }
     {
@@ -301,6 +309,7 @@ impl<K: Component> Floor<K> {
         ensures held { IsHeldAt K.rules self.now worker.new held.new }
         ensures wired { IsWiredAt self.now held.new }
         ensures burst { BurstsAt K.rules self.now most held.old worker.old held.new worker.new result }
+        ensures passed { PassesInBurst (G.has_passed gate.now) held.old.body result }
         ensures seat { IsSameWorker worker.old worker.new }
         ensures readies { Readies self.now worker.old worker.new }
     {

@@ -23,7 +23,7 @@ use Rattle.flow_own.specs.declared.tape.End.{End}
 use Rattle.flow_own.specs.declared.tape.End.TheVariants as ends
 use Rattle.flow_own.specs.declared.tape.Entry.{Entry}
 use Rattle.flow_own.specs.Acts.{Made, CanAct}
-use Rattle.flow_own.specs.Parts.{Seen}
+use Rattle.flow_own.specs.Parts.{Resumed, Seen}
 use Rattle.flow_own.specs.Ends.{is_used, at_port, at_root, end_by, EndsBy}
 use Rattle.flow_own.specs.Tapes.{OwnValue, own_state, is_failure, has_failed, can_end, is_limit, is_full, Records, NextAs, OwnNext, outcome_by, after_entry, result_by}
 use Rattle.flow_own.specs.Taping.{EntryAs, Adds, Tapes}
@@ -64,9 +64,9 @@ pub same-count : (old new : Holding) → held_of new ≡ held_of old → new.dro
 same-count old new e f = f ∙ dropped-same old ∙ ap (λ (h : Held). dropped_count old.dropped (drops_between (held_of old) h)) (sym e)
 
 -- An entry that was added is one of those that the part may come to.
-pub entry-recorded : (own : OwnValue) (before after : Seen) (old new : Holding) (answer : Answer) (entry : Entry) (full : Bool) → is_full own.tape ≡ full
-    → EntryAs full before after own.shape own.used old new answer entry → Recorded own old new answer entry
-entry-recorded own before after old new answer entry true e how =
+pub entry-recorded : (resumed : Resumed) (own : OwnValue) (before after : Seen) (old new : Holding) (answer : Answer) (entry : Entry) (full : Bool) → is_full own.tape ≡ full
+    → EntryAs resumed full before after own.shape own.used old new answer entry → Recorded own old new answer entry
+entry-recorded resumed own before after old new answer entry true e how =
     let P : Option Made → List ℕ → Type 0 = λ made dropped. CanAct (held_of old) made dropped in
     let none : P None [] = record { makes = tt; drops = tt } in
     record {
@@ -80,7 +80,7 @@ entry-recorded own before after old new answer entry true e how =
       held = rw (how.made, how.dropped) how.held;
       count = same-count old new how.held how.count;
     }
-entry-recorded own before after old new answer entry false e how =
+entry-recorded resumed own before after old new answer entry false e how =
     let fine = answer-fine own.shape own.used (held_of new) after.last entry.end how.ends_by in
     record {
       records = record {
@@ -110,21 +110,21 @@ next-as : (own : OwnValue) (held : Held) (answer : Answer) (outcome : Outcome Ow
 next-as own held answer outcome e next = subst (λ (p : Option ℕ). NextAs p own held answer outcome) (sym e) next
 
 -- What a live part did is one of its outcomes.
-pub taped-resumes : (own : OwnValue) (before after : Seen) (tape : List Entry) (old new : Holding) (answer : Answer) (result : Result Wish Stop) → own.place ≡ None
-    → Tapes before after own.shape own.used own.tape tape old new answer result → Resumes OwnNext (own_state own) old answer result (longer own tape) new
-taped-resumes own before after tape old new answer (Ok wish) none a =
-    let r = entry-recorded own before after old new answer a.entry (is_full own.tape) refl a.how in
+pub taped-resumes : (resumed : Resumed) (own : OwnValue) (before after : Seen) (tape : List Entry) (old new : Holding) (answer : Answer) (result : Result Wish Stop) → own.place ≡ None
+    → Tapes resumed before after own.shape own.used own.tape tape old new answer result → Resumes OwnNext (own_state own) old answer result (longer own tape) new
+taped-resumes resumed own before after tape old new answer (Ok wish) none a =
+    let r = entry-recorded resumed own before after old new answer a.entry (is_full own.tape) refl a.how in
     let e = wish-end a.entry.end wish a.gives in
     let to : Wishes (longer own tape) (held_of new) wish ≡ outcome_by (longer own (own.tape ++ a.entry ∷ [])) (after_entry (held_of old) a.entry) a.entry.end =
     (λ i. Wishes (longer own (a.added i)) (r.held i) wish) ∙ ap (outcome_by (longer own (own.tape ++ a.entry ∷ [])) (after_entry (held_of old) a.entry)) (sym e) in
     (next-as (own_state own) (held_of old) answer (Wishes (longer own tape) (held_of new) wish) none (a.entry, record { told = r.records.told; acts = r.records.acts; few = r.records.few; ends_well = r.records.ends_well; limit = r.records.limit }, to), r.count)
-taped-resumes own before after tape old new answer (Err (stops.Fail cause)) none a =
-    let r = entry-recorded own before after old new answer a.entry (is_full own.tape) refl a.how in
+taped-resumes resumed own before after tape old new answer (Err (stops.Fail cause)) none a =
+    let r = entry-recorded resumed own before after old new answer a.entry (is_full own.tape) refl a.how in
     let f = fail-end a.entry.end cause a.gives in
     let to : Fails (longer own tape) (held_of new) cause ≡ outcome_by (longer own (own.tape ++ a.entry ∷ [])) (after_entry (held_of old) a.entry) a.entry.end =
     (λ i. Fails (longer own (a.added i)) (r.held i) (f.2 i)) ∙ ap (outcome_by (longer own (own.tape ++ a.entry ∷ [])) (after_entry (held_of old) a.entry)) (sym f.1) in
     (next-as (own_state own) (held_of old) answer (Fails (longer own tape) (held_of new) cause) none (a.entry, record { told = r.records.told; acts = r.records.acts; few = r.records.few; ends_well = r.records.ends_well; limit = r.records.limit }, to), r.count)
-taped-resumes own before after tape old new answer (Err stops.NoMemory) none s = ((λ i. longer own (s.entries i)), s.held, s.count)
+taped-resumes resumed own before after tape old new answer (Err stops.NoMemory) none s = ((λ i. longer own (s.entries i)), s.held, s.count)
 
 failed-last : (tape : List Entry) (entry : Entry) → has_failed (tape ++ entry ∷ []) ≡ false → is_failure entry.end ≡ false
 failed-last [] entry h = by (is_failure entry.end) h
@@ -138,22 +138,22 @@ failed-last (e ∷ tape) entry h = failed-last tape entry (by (is_failure e.end)
     by true b e = cc
     by false b e = e
 
-within-as : (own : OwnValue) (before after : Seen) (old new : Holding) (answer : Answer) (entry : Entry) (full : Bool) → is_full own.tape ≡ full → length own.tape < TAPE_LIMIT
-    → EntryAs full before after own.shape own.used old new answer entry → is_failure entry.end ≡ false → length own.tape + 1 < TAPE_LIMIT
-within-as own before after old new answer entry true e within how none = let f : is_failure entry.end ≡ true = rw how.limit refl in let never : true ≡ false = sym f ∙ none in absurd (cc)
-within-as own before after old new answer entry false e within how none = let f : nat_eq (length own.tape + 1) TAPE_LIMIT ≡ false = e in grind (arith, nat_tests)
+within-as : (resumed : Resumed) (own : OwnValue) (before after : Seen) (old new : Holding) (answer : Answer) (entry : Entry) (full : Bool) → is_full own.tape ≡ full → length own.tape < TAPE_LIMIT
+    → EntryAs resumed full before after own.shape own.used old new answer entry → is_failure entry.end ≡ false → length own.tape + 1 < TAPE_LIMIT
+within-as resumed own before after old new answer entry true e within how none = let f : is_failure entry.end ≡ true = rw how.limit refl in let never : true ≡ false = sym f ∙ none in absurd (cc)
+within-as resumed own before after old new answer entry false e within how none = let f : nat_eq (length own.tape + 1) TAPE_LIMIT ≡ false = e in grind (arith, nat_tests)
 
-added-within : (own : OwnValue) (before after : Seen) (tape : List Entry) (old new : Holding) (answer : Answer) (result : Result Wish Stop) → length own.tape < TAPE_LIMIT
-    → Adds before after own.shape own.used own.tape tape old new answer result → has_failed tape ≡ false → length tape < TAPE_LIMIT
-added-within own before after tape old new answer result within a none =
+added-within : (resumed : Resumed) (own : OwnValue) (before after : Seen) (tape : List Entry) (old new : Holding) (answer : Answer) (result : Result Wish Stop) → length own.tape < TAPE_LIMIT
+    → Adds resumed before after own.shape own.used own.tape tape old new answer result → has_failed tape ≡ false → length tape < TAPE_LIMIT
+added-within resumed own before after tape old new answer result within a none =
     let none' : has_failed (own.tape ++ a.entry ∷ []) ≡ false = subst (λ (t : List Entry). has_failed t ≡ false) a.added none in
-    let less = within-as own before after old new answer a.entry (is_full own.tape) refl within a.how (failed-last own.tape a.entry none') in
+    let less = within-as resumed own before after old new answer a.entry (is_full own.tape) refl within a.how (failed-last own.tape a.entry none') in
     let more : length tape ≡ length own.tape + 1 = ap (λ (t : List Entry). length t) a.added ∙ length-append own.tape (a.entry ∷ []) in
     omega (arith, less, more)
 
 -- The tape is within its limit until the part fails.
-pub tape-within : (own : OwnValue) (before after : Seen) (tape : List Entry) (old new : Holding) (answer : Answer) (result : Result Wish Stop) → length own.tape < TAPE_LIMIT
-    → Tapes before after own.shape own.used own.tape tape old new answer result → has_failed tape ≡ false → length tape < TAPE_LIMIT
-tape-within own before after tape old new answer (Ok wish) within a none = added-within own before after tape old new answer (Ok wish) within a none
-tape-within own before after tape old new answer (Err (stops.Fail cause)) within a none = added-within own before after tape old new answer (Err (stops.Fail cause)) within a none
-tape-within own before after tape old new answer (Err stops.NoMemory) within s none = let same : length tape ≡ length own.tape = ap (λ (t : List Entry). length t) s.entries in omega (arith, same, within)
+pub tape-within : (resumed : Resumed) (own : OwnValue) (before after : Seen) (tape : List Entry) (old new : Holding) (answer : Answer) (result : Result Wish Stop) → length own.tape < TAPE_LIMIT
+    → Tapes resumed before after own.shape own.used own.tape tape old new answer result → has_failed tape ≡ false → length tape < TAPE_LIMIT
+tape-within resumed own before after tape old new answer (Ok wish) within a none = added-within resumed own before after tape old new answer (Ok wish) within a none
+tape-within resumed own before after tape old new answer (Err (stops.Fail cause)) within a none = added-within resumed own before after tape old new answer (Err (stops.Fail cause)) within a none
+tape-within resumed own before after tape old new answer (Err stops.NoMemory) within s none = let same : length tape ≡ length own.tape = ap (λ (t : List Entry). length t) s.entries in omega (arith, same, within)

@@ -13,7 +13,7 @@ use Rattle.flow_own.specs.declared.tape.End.{End}
 use Rattle.flow_own.specs.declared.tape.End.TheVariants as ends
 use Rattle.flow_own.specs.declared.tape.Entry.{Entry}
 use Rattle.flow_own.specs.Acts.{Made, CanMake}
-use Rattle.flow_own.specs.Parts.{Seen}
+use Rattle.flow_own.specs.Parts.{Resumed, Seen}
 use Rattle.flow_own.specs.Recorded.{IsShort, IsOfPart, IsEntryWritable, IsTapeWritable}
 use Rattle.flow_own.specs.Tapes.{OwnValue, after_entry, can_end, is_full, Records, IsOwn}
 use Rattle.flow_own.specs.Taping.{Adds, Tapes}
@@ -52,24 +52,24 @@ writable-push tape entry within all last =
 pub writable-empty : IsTapeWritable []
 writable-empty = record { few = omega arith; each = λ k entry at. absurd cc }
 
-added-writable : (own : OwnValue) (before after : Seen) (tape : List Entry) (old new : Holding) (answer : Answer) (result : Result Wish Stop) → length own.tape < TAPE_LIMIT → IsTapeWritable own.tape
-    → Adds before after own.shape own.used own.tape tape old new answer result → IsTapeWritable tape
-added-writable own before after tape old new answer result within all a =
-    let r = entry-recorded own before after old new answer a.entry (is_full own.tape) refl a.how in
+added-writable : (resumed : Resumed) (own : OwnValue) (before after : Seen) (tape : List Entry) (old new : Holding) (answer : Answer) (result : Result Wish Stop) → length own.tape < TAPE_LIMIT → IsTapeWritable own.tape
+    → Adds resumed before after own.shape own.used own.tape tape old new answer result → IsTapeWritable tape
+added-writable resumed own before after tape old new answer result within all a =
+    let r = entry-recorded resumed own before after old new answer a.entry (is_full own.tape) refl a.how in
     subst IsTapeWritable (sym a.added) (writable-push own.tape a.entry within all (records-writable own (held_of old) answer a.entry r.records))
 
 -- A resume of a live part leaves a tape that has a place in a file.
-pub taped-writable : (own : OwnValue) (before after : Seen) (tape : List Entry) (old new : Holding) (answer : Answer) (result : Result Wish Stop) → length own.tape < TAPE_LIMIT → IsTapeWritable own.tape
-    → Tapes before after own.shape own.used own.tape tape old new answer result → IsTapeWritable tape
-taped-writable own before after tape old new answer (Ok wish) within all a = added-writable own before after tape old new answer (Ok wish) within all a
-taped-writable own before after tape old new answer (Err (stops.Fail cause)) within all a = added-writable own before after tape old new answer (Err (stops.Fail cause)) within all a
-taped-writable own before after tape old new answer (Err stops.NoMemory) within all s = subst IsTapeWritable (sym s.entries) all
+pub taped-writable : (resumed : Resumed) (own : OwnValue) (before after : Seen) (tape : List Entry) (old new : Holding) (answer : Answer) (result : Result Wish Stop) → length own.tape < TAPE_LIMIT → IsTapeWritable own.tape
+    → Tapes resumed before after own.shape own.used own.tape tape old new answer result → IsTapeWritable tape
+taped-writable resumed own before after tape old new answer (Ok wish) within all a = added-writable resumed own before after tape old new answer (Ok wish) within all a
+taped-writable resumed own before after tape old new answer (Err (stops.Fail cause)) within all a = added-writable resumed own before after tape old new answer (Err (stops.Fail cause)) within all a
+taped-writable resumed own before after tape old new answer (Err stops.NoMemory) within all s = subst IsTapeWritable (sym s.entries) all
 
 -- A live part stays one whose tape is within its limit until it fails, and has a place in a file.
-pub taped-own : (own : OwnValue) (before after : Seen) (tape : List Entry) (old new : Holding) (answer : Answer) (result : Result Wish Stop) → own.place ≡ None → length own.tape < TAPE_LIMIT → IsTapeWritable own.tape
-    → Tapes before after own.shape own.used own.tape tape old new answer result → IsOwn (record own { part = Some after; tape = tape })
-taped-own own before after tape old new answer result none within all t = record {
+pub taped-own : (resumed : Resumed) (own : OwnValue) (before after : Seen) (tape : List Entry) (old new : Holding) (answer : Answer) (result : Result Wish Stop) → own.place ≡ None → length own.tape < TAPE_LIMIT → IsTapeWritable own.tape
+    → Tapes resumed before after own.shape own.used own.tape tape old new answer result → IsOwn (record own { part = Some after; tape = tape })
+taped-own resumed own before after tape old new answer result none within all t = record {
   live = λ l. none;
-  limit = λ p f. tape-within own before after tape old new answer result within t f;
-  recorded = λ p. taped-writable own before after tape old new answer result within all t;
+  limit = λ p f. tape-within resumed own before after tape old new answer result within t f;
+  recorded = λ p. taped-writable resumed own before after tape old new answer result within all t;
 }

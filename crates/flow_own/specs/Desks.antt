@@ -16,6 +16,10 @@ pub record DeskValue : Type 0 where
   pub made : Option Made
   pub dropped : List ℕ
 
+-- A desk that shows these hands and keeps these acts.
+abbrev pub desk_with : Held → Option Made → List ℕ → DeskValue
+desk_with held made dropped = record { held = held; made = made; dropped = dropped }
+
 -- How the prover keeps hands, and a desk.
 abbrev pub held_code : Coded Held
 held_code =

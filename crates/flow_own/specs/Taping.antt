@@ -11,21 +11,25 @@ use Rattle.flow_component.specs.declared.Stop.{Stop}
 use Rattle.flow_component.specs.declared.Stop.TheVariants as stops
 use Rattle.flow_component.specs.declared.Wish.{Wish}
 use Rattle.flow_component.specs.Resumes.{drops_between, dropped_count}
+use Rattle.flow_own.specs.declared.part.PartStop.{PartStop}
 use Rattle.flow_own.specs.declared.tape.End.{End}
 use Rattle.flow_own.specs.declared.tape.End.TheVariants as ends
 use Rattle.flow_own.specs.declared.tape.Entry.{Entry}
 use Rattle.flow_own.specs.Acts.{IsActs}
 use Rattle.flow_own.specs.Desks.{count_acts}
-use Rattle.flow_own.specs.Parts.{Seen}
+use Rattle.flow_own.specs.Parts.{Leaves, Resumed, Seen}
 use Rattle.flow_own.specs.Ends.{EndsBy}
 use Rattle.flow_own.specs.Tapes.{OwnValue, after_entry, can_play, is_full, result_by}
 
--- The part was asked and gave an answer, its acts were done, and this is their entry, which ends by that answer.
-pub record IsEntry (before after : Seen) (shape : Shape) (used : List ℕ) (old new : Holding) (answer : Answer) (entry : Entry) : Type 0 where
+-- The part was asked once and gave an answer; this is the entry of the acts that it left at its desk, which were done, and it ends by that answer.
+pub record IsEntry (resumed : Resumed) (before after : Seen) (shape : Shape) (used : List ℕ) (old new : Holding) (answer : Answer) (entry : Entry) : Type 0 where
   pub told : entry.answer ≡ answer
   pub acts : IsActs (held_of old) entry.made entry.dropped
   pub held : held_of new ≡ after_entry (held_of old) entry
   pub count : new.dropped ≡ dropped_count old.dropped (drops_between (held_of old) (held_of new))
+  pub said : Result Wish PartStop
+  pub last : after.last ≡ Some said
+  pub leaves : Leaves resumed before after (held_of old) answer said entry.made entry.dropped
   pub rose : Rose before.answers after.answers
   pub many : count_acts entry.made entry.dropped ≡ after.acts
   pub ends_by : EndsBy shape used (held_of new) after.last entry.end
@@ -41,15 +45,15 @@ pub record IsLast (before after : Seen) (old new : Holding) (answer : Answer) (e
   pub count : new.dropped ≡ old.dropped
 
 -- Which of the two it is follows from the length of the tape.
-abbrev pub EntryAs : Bool → Seen → Seen → Shape → List ℕ → Holding → Holding → Answer → Entry → Type 0
-EntryAs true before after shape used old new answer entry = IsLast before after old new answer entry
-EntryAs false before after shape used old new answer entry = IsEntry before after shape used old new answer entry
+abbrev pub EntryAs : Resumed → Bool → Seen → Seen → Shape → List ℕ → Holding → Holding → Answer → Entry → Type 0
+EntryAs resumed true before after shape used old new answer entry = IsLast before after old new answer entry
+EntryAs resumed false before after shape used old new answer entry = IsEntry resumed before after shape used old new answer entry
 
 -- One entry was added to the tape, and the resume ends as it does.
-pub record Adds (before after : Seen) (shape : Shape) (used : List ℕ) (tape tape' : List Entry) (old new : Holding) (answer : Answer) (result : Result Wish Stop) : Type 0 where
+pub record Adds (resumed : Resumed) (before after : Seen) (shape : Shape) (used : List ℕ) (tape tape' : List Entry) (old new : Holding) (answer : Answer) (result : Result Wish Stop) : Type 0 where
   pub entry : Entry
   pub added : tape' ≡ tape ++ entry ∷ []
-  pub how : EntryAs (is_full tape) before after shape used old new answer entry
+  pub how : EntryAs resumed (is_full tape) before after shape used old new answer entry
   pub gives : result ≡ result_by entry.end
 
 -- Nothing changed, as far as contracts see tape and hands.
@@ -59,20 +63,20 @@ pub record Stays (tape tape' : List Entry) (old new : Holding) : Type 0 where
   pub count : new.dropped ≡ old.dropped
 
 -- A resume adds an entry, or there was no memory.
-abbrev pub Tapes : Seen → Seen → Shape → List ℕ → List Entry → List Entry → Holding → Holding → Answer → Result Wish Stop → Type 0
-Tapes before after shape used tape tape' old new answer (Ok wish) = Adds before after shape used tape tape' old new answer (Ok wish)
-Tapes before after shape used tape tape' old new answer (Err (stops.Fail cause)) = Adds before after shape used tape tape' old new answer (Err (stops.Fail cause))
-Tapes before after shape used tape tape' old new answer (Err stops.NoMemory) = Stays tape tape' old new
+abbrev pub Tapes : Resumed → Seen → Seen → Shape → List ℕ → List Entry → List Entry → Holding → Holding → Answer → Result Wish Stop → Type 0
+Tapes resumed before after shape used tape tape' old new answer (Ok wish) = Adds resumed before after shape used tape tape' old new answer (Ok wish)
+Tapes resumed before after shape used tape tape' old new answer (Err (stops.Fail cause)) = Adds resumed before after shape used tape tape' old new answer (Err (stops.Fail cause))
+Tapes resumed before after shape used tape tape' old new answer (Err stops.NoMemory) = Stays tape tape' old new
 
 -- The same of a component of the caller's own, where it is live: it stays so.
-abbrev pub TapesAs : Option Seen → Option Seen → OwnValue → OwnValue → Holding → Holding → Answer → Result Wish Stop → Type 0
-TapesAs None after own own' old new answer result = Unit {0}
-TapesAs (Some before) None own own' old new answer result = ⊥
-TapesAs (Some before) (Some after) own own' old new answer result = Tapes before after own.shape own.used own.tape own'.tape old new answer result
+abbrev pub TapesAs : Resumed → Option Seen → Option Seen → OwnValue → OwnValue → Holding → Holding → Answer → Result Wish Stop → Type 0
+TapesAs resumed None after own own' old new answer result = Unit {0}
+TapesAs resumed (Some before) None own own' old new answer result = ⊥
+TapesAs resumed (Some before) (Some after) own own' old new answer result = Tapes resumed before after own.shape own.used own.tape own'.tape old new answer result
 
 -- What a resume of a live part adds to its tape.
-abbrev pub IsTaped : OwnValue → OwnValue → Holding → Holding → Answer → Result Wish Stop → Type 0
-IsTaped own own' old new answer result = TapesAs own.part own'.part own own' old new answer result
+abbrev pub IsTaped : Resumed → OwnValue → OwnValue → Holding → Holding → Answer → Result Wish Stop → Type 0
+IsTaped resumed own own' old new answer result = TapesAs resumed own.part own'.part own own' old new answer result
 
 -- The hands stay, and so does the count of what was dropped.
 pub record Keeps (old new : Holding) : Type 0 where

@@ -54,7 +54,7 @@ fn ask<P: Part>(
 ) -> (Result<Wish, PartStop>, Option<(Kind, Text)>, Vec<PacketId>)
     requires { hands.now.made < 4294967295 }
     ensures can { IsActs (held_of hands.now) result.1 result.2.items }
-    ensures asked { IsAsked (P.seen part.old) (P.seen part.new) result.0 result.1 result.2.items }
+    ensures asked { IsAsked P.resumed (P.seen part.old) (P.seen part.new) (held_of hands.now) answer.now result.0 result.1 result.2.items }
 {
     let mut desk = Desk::new(alloc, hands);
     let said = part.resume(&mut desk, *answer);
@@ -104,7 +104,7 @@ fn entry_of<P: Part>(
     used: &[u32],
 ) -> Option<Entry>
     requires { hands.old.made < 4294967295 }
-    ensures some { IfSome result (λ entry. IsEntry (P.seen part.old) (P.seen part.new) shape used.now hands.old hands.new answer.now entry) }
+    ensures some { IfSome result (λ entry. IsEntry P.resumed (P.seen part.old) (P.seen part.new) shape used.now hands.old hands.new answer.now entry) }
     ensures none { IsNone result → (held_of hands.new ≡ held_of hands.old) × (hands.new.dropped ≡ hands.old.dropped) }
 {
     let (said, made, dropped) = ask(alloc, part, hands, answer);
@@ -152,7 +152,7 @@ fn record<P: Part>(
 ) -> Result<Wish, Stop>
     requires room { hands.old.made < 4294967295 }
     requires within { length tape.old < TAPE_LIMIT }
-    ensures { Tapes (P.seen part.old) (P.seen part.new) shape used.now tape.old tape.new hands.old hands.new answer.now result }
+    ensures { Tapes P.resumed (P.seen part.old) (P.seen part.new) shape used.now tape.old tape.new hands.old hands.new answer.now result }
 {
     let alloc = *tape.entries.allocator();
     if tape.entries.reserve(1).is_err() {
@@ -219,7 +219,7 @@ impl<P: Part> Own<P> {
         requires ready { OwnReady (own_state self.old) (held_of hands.old) answer }
         requires room { hands.old.made < 4294967295 }
         ensures resumes { Resumes OwnNext (own_state self.old) hands.old answer result (own_state self.new) hands.new }
-        ensures taped { IsTaped self.old self.new hands.old hands.new answer result }
+        ensures taped { IsTaped P.resumed self.old self.new hands.old hands.new answer result }
     {
         let shape = self.shape;
         let Some(part) = &mut self.part else {
@@ -283,7 +283,7 @@ impl<P: Part> Component for Own<P> {
         requires ready { OwnReady (own_state self.old) (held_of hands.old) answer }
         requires room { hands.old.made < 4294967295 }
         ensures resumes { Resumes OwnNext (own_state self.old) hands.old answer result (own_state self.new) hands.new }
-        ensures taped { IsTaped self.old self.new hands.old hands.new answer result }
+        ensures taped { IsTaped P.resumed self.old self.new hands.old hands.new answer result }
         ensures told { own_told self.old ≡ true → own_told self.new ≡ true }
     {
         if self.is_live() {

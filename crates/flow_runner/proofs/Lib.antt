@@ -10,3 +10,5 @@ pub mod Joined
 pub mod Posts
 pub mod Rounds
 pub mod Followed
+pub mod Filled
+pub mod Gates

@@ -3,6 +3,9 @@ use Rattle.std.specs.Prelude.{◌≡◌, ℕ, ◌+◌, ◌≤◌, ◌⊎◌, Lis
 use Rattle.flow_floor.specs.declared.floor.Floor.{Floor}
 use Rattle.flow_floor.specs.declared.floor.Worker.{Worker}
 use Rattle.flow_floor.specs.declared.floor.Held.{Held}
+use Rattle.flow_floor.specs.Bursts.{PassesBetween}
+use Rattle.flow_floor.specs.Views.{leaving, looked, lowering, parking}
+use Rattle.flow_floor.specs.Workers.{view}
 use Rattle.flow_floor.specs.Floors.{IsStuckAt, IsOverAs, HasReadZero, turns_of}
 use Rattle.flow_runner.specs.declared.work.Attempt.{Attempt}
 use Rattle.flow_runner.specs.declared.work.Attempt.TheVariants as attempts
@@ -15,12 +18,26 @@ module _ {K : Type 0} where
   MayGo floor w h (attempts.Made count) = Unit {0}
   MayGo floor w h attempts.Busy = Unit {0}
 
+  -- How it was let go: one that is blocked is parked, or, as it was poked meanwhile, is ready again; one that is over is done; and any other is ready.
+  abbrev pub LetsGo : Held K → Worker K → Worker K → Attempt → Type 0
+  LetsGo h w w' attempts.Blocked = (view w' ≡ lowering (parking (view w))) ⊎ (view w' ≡ leaving (looked (view w) h.process 3))
+  LetsGo h w w' (attempts.Over over) = view w' ≡ lowering (parking (view w))
+  LetsGo h w w' (attempts.Made count) = view w' ≡ leaving (view w)
+  LetsGo h w w' attempts.Busy = view w' ≡ leaving (view w)
+
 -- The turns of a worker before an attempt at so many and after it: as many more as were made, at least one and no more than those; and else the same.
 abbrev pub Adds : ℕ → Attempt → List (ℕ × ℕ) → List (ℕ × ℕ) → Type 0
 Adds most (attempts.Made count) old new = (length new ≡ length old + count) × (1 ≤ count) × (count ≤ most)
 Adds most attempts.Busy old new = new ≡ old
 Adds most attempts.Blocked old new = new ≡ old
 Adds most (attempts.Over over) old new = new ≡ old
+
+-- Between its turns, before which the process had made so many, the gate was passed.
+abbrev pub PassesInAttempt : (ℕ → ℕ → Type 0) → ℕ → Attempt → Type 0
+PassesInAttempt has_passed turns (attempts.Made count) = PassesBetween has_passed turns count
+PassesInAttempt has_passed turns attempts.Busy = Unit {0}
+PassesInAttempt has_passed turns attempts.Blocked = Unit {0}
+PassesInAttempt has_passed turns (attempts.Over over) = Unit {0}
 
 -- Each turn that was made is one less that is left.
 abbrev pub Spends : List (ℕ × ℕ) → ℕ → List (ℕ × ℕ) → ℕ → Type 0

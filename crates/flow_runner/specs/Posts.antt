@@ -1,5 +1,5 @@
 -- What clauses say of the lines of a run, one for each worker, and of a worker's passes of them.
-use Rattle.std.specs.Prelude.{◌≡◌, ◌≢◌, ◌==◌, ℕ, ◌<◌, List, [], ◌∷◌, ◌++◌, All, Option, Some, None, cond, get_or, length, map}
+use Rattle.std.specs.Prelude.{◌≡◌, ◌≢◌, ◌==◌, ℕ, ◌<◌, List, [], ◌∷◌, ◌++◌, All, Option, Some, None, cond, get_or, length, map, nat_lt, sum_by}
 use Rattle.flow_floor.specs.declared.floor.Floor.{Floor}
 use Rattle.flow_floor.specs.declared.floor.Worker.{Worker}
 use Rattle.flow_floor.specs.Floors.{asked_of, readied_of, process_count, IsIdleAt}
@@ -8,6 +8,7 @@ use Rattle.flow_runner.specs.declared.lines.Post.{Post}
 use Rattle.flow_runner.specs.declared.lines.Lines.{Lines}
 use Rattle.flow_runner.specs.declared.server.Server.{Server}
 use Rattle.flow_runner.specs.declared.watch.Watch.{Watch}
+use Rattle.flow_runner.specs.Fair.{times}
 use Rattle.flow_runner.specs.Lines.{line_room, pops_of, pushes_of, IsPassAt}
 use Rattle.flow_runner.specs.Serving.{GrowAlike, KeepsPass, Pushes}
 
@@ -40,6 +41,14 @@ pub record PopAll (posts : List Post) (ps : List LinePass) (popped : List (ℕ �
 abbrev pub PopOne : List Post → List LinePass → Option ℕ → List LinePass → Type 0
 PopOne posts ps None ps' = PopAll posts ps [] ps'
 PopOne posts ps (Some process) ps' = (line : ℕ) × PopAll posts ps ((line, process) ∷ []) ps'
+
+-- How often a process below n is among the first n, which is once.
+abbrev pub once_below : ℕ → ℕ → ℕ
+once_below n q = cond (nat_lt q n) 1 0
+
+-- By these passes each of the first n processes was pushed once more, onto whichever line, and no other.
+abbrev pub PushesEach : ℕ → List LinePass → List LinePass → Type 0
+PushesEach n ps ps' = (q : ℕ) → sum_by (λ p. times q (pushes_of p)) ps' ≡ sum_by (λ p. times q (pushes_of p)) ps + once_below n q
 
 -- Each line is for so many processes.
 abbrev pub AreRoomFor : ℕ → List Post → Type 0

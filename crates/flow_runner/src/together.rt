@@ -2,7 +2,7 @@
 ghost use Rattle.flow_floor.specs.Floors.{HasReadZero, HasSameShare, IsCrewOf, IsIdleAt, IsNewWorker, process_count, turns_of};
 ghost use Rattle.flow_limits.specs.declared.TheConstants.{PROCESS_LIMIT, WORKER_LIMIT};
 ghost use Rattle.flow_runner.specs.Lines.{parts_of};
-ghost use Rattle.flow_runner.specs.Posts.{posts_of, ArePassesAt, AreLinesFor, AreRoomFor, IsAtPosts, IsPosted, Watches};
+ghost use Rattle.flow_runner.specs.Posts.{posts_of, ArePassesAt, AreLinesFor, AreRoomFor, IsAtPosts, IsPosted, PushesEach, Watches};
 ghost use Rattle.flow_runner.specs.Serving.{HasDone, HasServed, workers_at};
 ghost use Rattle.std.specs.Prelude.{◌≡◌, ◌+◌, ◌<◌, ◌≤◌, ℕ, All, IfErr, IfOk, IfSome, Option, [], length, vec_capacity};
 
@@ -206,6 +206,7 @@ fn fill<R: Wait>(rt: &R, lines: &Lines, passes: &mut Vec<LinePass>, begins: &[u3
     requires room { AreRoomFor processes (posts_of lines.now) }
     requires passes { ArePassesAt (posts_of lines.now) passes.old.items }
     ensures passes { ArePassesAt (posts_of lines.now) passes.new.items }
+    ensures pushed { PushesEach processes passes.old.items passes.new.items }
 {
     for process in 0..processes {
         let at = first_line(begins, process, lines.posts.len());

@@ -1,7 +1,8 @@
 //! What a worker does with one process.
+ghost use Rattle.flow_floor.specs.Bursts.{IsOneAtMost, PassesInBurst};
 ghost use Rattle.flow_floor.specs.Floors.{BurstsAt, IsHeldAt, IsIdleAt, IsSameWorker, IsWiredAt, HasSameShare, Readies, asked_of, process_count, turns_of};
 ghost use Rattle.flow_machine.specs.Thoughts.{IsSet, PassesFirst};
-ghost use Rattle.flow_runner.specs.Attempts.{Adds, MayGo, Spends};
+ghost use Rattle.flow_runner.specs.Attempts.{Adds, LetsGo, MayGo, PassesInAttempt, Spends};
 ghost use Rattle.flow_runner.specs.Lines.{IsPassAt};
 ghost use Rattle.flow_runner.specs.Serving.{names_of, IsLineFor, MayStandIn, Pushes, PushesBut};
 ghost use Rattle.std.specs.Prelude.{◌≡◌, ◌<◌, ◌≤◌, ℕ, ◌++◌, [], ◌∷◌};
@@ -35,6 +36,7 @@ fn whole_turn<K: Component>(floor: &Floor<K>, worker: &mut Worker<K>, held: &mut
     ensures held { IsHeldAt K.rules floor.now worker.new held.new }
     ensures wired { IsWiredAt floor.now held.new }
     ensures burst { (most : ℕ) → 1 ≤ most → BurstsAt K.rules floor.now most held.old worker.old held.new worker.new result }
+    ensures one { IsOneAtMost result }
     ensures same { IsSameWorker worker.old worker.new }
     ensures readies { Readies floor.now worker.old worker.new }
 {
@@ -62,6 +64,7 @@ fn whole_or_burst<K: Component, G: Gate>(
     ensures held { IsHeldAt K.rules floor.now worker.new held.new }
     ensures wired { IsWiredAt floor.now held.new }
     ensures burst { BurstsAt K.rules floor.now most held.old worker.old held.new worker.new result }
+    ensures passed { PassesInBurst (G.has_passed gate.now) held.old.body result }
     ensures same { IsSameWorker worker.old worker.new }
     ensures readies { Readies floor.now worker.old worker.new }
 {
@@ -94,6 +97,7 @@ fn make_burst<K: Component, G: Gate, R: Wait>(
     ensures held { IsHeldAt K.rules floor.now worker.new held.new }
     ensures wired { IsWiredAt floor.now held.new }
     ensures burst { BurstsAt K.rules floor.now most held.old worker.old held.new worker.new result }
+    ensures passed { PassesInBurst (G.has_passed gate.now) held.old.body result }
     ensures same { IsSameWorker worker.old worker.new }
     ensures pushes { PushesBut line.now worker.old pass.old (names_of unpushed.old) worker.new pass.new (names_of unpushed.new) }
     ensures left { MayStandIn line.now (names_of unpushed.new) }
@@ -134,6 +138,7 @@ fn try_turns<K: Component, G: Gate, R: Wait>(
     ensures adds { Adds stint.new.left result (turns_of worker.old) (turns_of worker.new) }
     ensures kept { stint.new.left ≡ stint.old.left }
     ensures passed { PassesFirst (G.has_passed gate.now) held.old.body }
+    ensures between { PassesInAttempt (G.has_passed gate.now) held.old.body.process.turns result }
     ensures pushes { PushesBut line.now worker.old pass.old (names_of unpushed.old) worker.new pass.new (names_of unpushed.new) }
     ensures left { MayStandIn line.now (names_of unpushed.new) }
 {
@@ -175,6 +180,7 @@ fn work<K: Component, G: Gate, R: Wait>(
     ensures may { MayGo floor.now worker.new held.new result }
     ensures same { IsSameWorker worker.old worker.new }
     ensures spends { Spends (turns_of worker.old) stint.old.left (turns_of worker.new) stint.new.left }
+    ensures passed { 1 ≤ stint.old.left → PassesFirst (G.has_passed gate.now) held.old.body }
     ensures pushes { PushesBut line.now worker.old pass.old (names_of unpushed.old) worker.new pass.new (names_of unpushed.new) }
     ensures left { MayStandIn line.now (names_of unpushed.new) }
 {
@@ -197,6 +203,7 @@ fn work<K: Component, G: Gate, R: Wait>(
 fn let_go<K: Component>(floor: &Floor<K>, worker: &mut Worker<K>, held: Held<K>, last: Attempt)
     requires held { IsHeldAt K.rules floor.now worker.old held }
     requires may { MayGo floor.now worker.old held last }
+    ensures lets_go { LetsGo held worker.old worker.new last }
     ensures idle { IsIdleAt floor.now worker.new }
     ensures same { IsSameWorker worker.old worker.new }
     ensures made { turns_of worker.new ≡ turns_of worker.old }

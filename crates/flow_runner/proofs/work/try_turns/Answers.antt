@@ -1,4 +1,6 @@
-use Rattle.std.proofs.Common.{sym, subst, arith}
+use Rattle.std.proofs.Common.{ℕ, sym, subst, arith}
+use Rattle.flow_floor.specs.Bursts.{PassesBetween}
+use Rattle.flow_floor.proofs.Gated.{turns-thought}
 use Rattle.flow_floor.specs.Floors.{IsOverAs}
 use Rattle.flow_runner.proofs.Attempts.{burst-adds, over-as, stuck-still}
 use Rattle.flow_runner.proofs.work.try_turns.Goals as goal
@@ -22,3 +24,7 @@ returns-in-NoMemory-clause-held g c = c.think.ensures.held c.args.floor.now c.ar
 pub returns-in-Over-clause-may : goal.returns-in-Over-clause-may
 returns-in-Over-clause-may g c = let t = c.in-Over.ensures.burst in
     subst (IsOverAs c.in-Over.over) (sym t.0.0) (over-as c.in-Over.over c.think.new.self c.in-Wishing.ensures.thinks.1 t.1)
+
+pub returns-in-Made-clause-between : goal.returns-in-Made-clause-between
+returns-in-Made-clause-between g c =
+    subst (λ (n : ℕ). PassesBetween (g.G.Gate.has_passed c.args.gate.now) n c.in-Made.count) (turns-thought g.K.Component.rules c.args.held.now.body c.think.new.self.body c.think.result c.think.ensures.thinks) c.in-Made.ensures.passed

@@ -6,6 +6,7 @@ use Rattle.flow_floor.specs.Bursts.{Bursts}
 use Rattle.flow_floor.specs.Ends.{capacities_of}
 use Rattle.flow_floor.proofs.Bursting.{burst-begun, goes-then}
 use Rattle.flow_floor.proofs.Bursts.{burst-told, bursts-after}
+use Rattle.flow_floor.proofs.Gated.{between-one}
 use Rattle.flow_floor.proofs.floor.Floor.burst_as.Goals as goal
 
 pub pass-count-requires : goal.pass-count-requires
@@ -26,3 +27,9 @@ returns-clause-burst g c = let f = c.args.self.now in let p = c.pass-count.ensur
     let makes = subst (λ (b : BodyValue _). MakesBurst g.K.Component.rules f.table.shared.key.value b c.pass-count.result h c.pass-count.new.worker s.new.held s.new.worker s.result) c.requires.1.1.1.1.1.1.0 s.ensures.made in
     let least : 1 ≤ c.pass-count.result = omega (arith, c.if-count-eq0.false) in
     burst-told g.K.Component.rules f.layout.processes f.layout.connections f.table.shared.key.value c.args.most c.args.held.now h s.new.held c.args.worker.now c.pass-count.new.worker s.new.worker c.tell.new.worker s.result c.pass-count.result p.goes makes p.process least p.most c.tell.ensures.made
+
+pub returns-then-count-eq0-clause-passed : goal.returns-then-count-eq0-clause-passed
+returns-then-count-eq0-clause-passed g c = between-one (g.G.Gate.has_passed c.args.gate.now) c.args.held.now.body c.take_one.result c.take_one.ensures.one
+
+pub returns-clause-passed : goal.returns-clause-passed
+returns-clause-passed g c = c.pass-count.ensures.passed

@@ -6,6 +6,7 @@ use Rattle.flow_floor.specs.Views.{seeing}
 use Rattle.flow_floor.specs.Workers.{view}
 use Rattle.flow_floor.proofs.Bursting.{burst-looked, burst-received, receives-pending}
 use Rattle.flow_floor.proofs.Further.{seeing-further}
+use Rattle.flow_floor.proofs.Gated.{got-turned}
 use Rattle.flow_floor.proofs.Passing.{may-get}
 use Rattle.flow_floor.proofs.floor.Floor.receive_on.Goals as goal
 
@@ -28,3 +29,6 @@ returns-in-Packet-clause-burst g c = let f = c.args.self.now in let e = c.in-Pac
     subst (λ k. IsInBurst g.K.Component.rules f.table.shared.table_id f.layout.processes f.layout.connections capacities g.began w h' (record ends { input = Some (record { connection = c.args.connection; packets = k + 1 }) })) (sym c.packets-drawn.ensures)
     (burst-received g.K.Component.rules f.table.shared.table_id f.layout.processes f.layout.connections capacities g.began c.args.worker.now w h h' ends c.args.connection c.in-Packet.field-0 _ c.args.port c.in-Packet.packet c.requires.1.0 c.requires.1.1.0 (c.may_come_to.ensures c.if-not-may_come_to.false) c.requires.1.1.1.1.0
     c.requires.1.1.1.1.1.0 c.requires.1.1.1.1.1.1.0 e.seated e.drawn.1 c.effect.ensures refl)
+
+pub returns-in-Packet-clause-turned : goal.returns-in-Packet-clause-turned
+returns-in-Packet-clause-turned g c made = got-turned c.args.held.now.body c.effect.new.self c.in-Packet.packet _ c.effect.ensures

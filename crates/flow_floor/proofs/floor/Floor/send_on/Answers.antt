@@ -6,8 +6,9 @@ use Rattle.flow_floor.specs.Views.{seeing}
 use Rattle.flow_floor.specs.Workers.{view, IsSeated}
 use Rattle.flow_floor.proofs.Bursting.{burst-looked, burst-sent, fits-at}
 use Rattle.flow_floor.proofs.Further.{seeing-further}
+use Rattle.flow_floor.proofs.Gated.{sent-turned}
 use Rattle.flow_ring.proofs.Rounds.{get-default}
-use Rattle.flow_floor.proofs.Turnings.{sent-may}
+use Rattle.flow_floor.proofs.Turnings.{sent-may, sent-turns}
 use Rattle.flow_floor.proofs.floor.Floor.send_on.Goals as goal
 use Rattle.flow_floor.proofs.floor.Floor.send_on.Goals.{After-index-most}
 
@@ -42,3 +43,6 @@ returns-in-Put-clause-burst g c = let f = c.args.self.now in let e = c.in-Put.en
     subst (λ k. IsInBurst g.K.Component.rules f.table.shared.table_id f.layout.processes f.layout.connections capacities g.began w' h' (record ends { output = Some (record { connection = c.args.connection; packets = k + 1 }) })) (sym c.packets-placed.ensures)
     (burst-sent g.K.Component.rules f.table.shared.table_id f.layout.processes f.layout.connections capacities g.began w w' h mid h' ends c.args.connection o.1 _ c.args.port _ c.come_to.ensures.burst (λ none. c.requires.1.1.0 (sym c.come_to.ensures.same ∙ none)) there room c.requires.1.1.1.0
     c.requires.1.1.1.1.0 c.requires.1.1.1.1.1.0 e.seated o.2 o.3 c.effect.ensures refl)
+
+pub returns-in-Put-clause-turned : goal.returns-in-Put-clause-turned
+returns-in-Put-clause-turned g c made = sent-turned c.args.held.now.body c.place.new.held.body c.effect.new.self _ (sent-turns c.args.held.now c.place.new.held c.args.port _ c.requires.1.1.1.1.0 c.in-Put.ensures.placed.3) c.effect.ensures

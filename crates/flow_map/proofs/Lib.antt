@@ -1,0 +1,3 @@
+pub mod MappingEnd
+pub mod MappingStream
+pub mod PlainStream
