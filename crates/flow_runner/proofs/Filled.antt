@@ -19,7 +19,7 @@ sum-set f (y ∷ ys) (suc i) x d lt = let rest = sum-set f ys i x d (omega (arit
 once-more : (n q : ℕ) → once_below (n + 1) q ≡ once_below n q + times q (n ∷ [])
 once-more n q = by (nat_lt q n) (nat_lt q (n + 1)) (nat_eq n q) refl refl refl
   where
-    by : (a b c : Bool) → nat_lt q n ≡ a → nat_lt q (n + 1) ≡ b → nat_eq n q ≡ c → cond b 1 0 ≡ cond a 1 0 + (cond c 1 0 + 0)
+    by : (a b c : Bool) → nat_lt q n ≡ a → nat_lt q (n + 1) ≡ b → nat_eq n q ≡ c → cond b 1 0 ≡ cond a 1 0 + (0 + cond c 1 0)
     by true true true e f h = absurd (grind (arith, nat_tests))
     by true true false e f h = refl
     by true false c e f h = absurd (grind (arith, nat_tests))

@@ -1,5 +1,5 @@
 -- What clauses say of the lines of a run, one for each worker, and of a worker's passes of them.
-use Rattle.std.specs.Prelude.{◌≡◌, ◌≢◌, ◌==◌, ℕ, ◌<◌, List, [], ◌∷◌, ◌++◌, All, Option, Some, None, cond, get_or, length, map, nat_lt, sum_by}
+use Rattle.std.specs.Prelude.{◌≡◌, ◌≢◌, ◌==◌, ℕ, ◌+◌, ◌<◌, List, [], ◌∷◌, ◌++◌, All, Option, Some, None, cond, get_or, length, map, nat_lt, sum_by}
 use Rattle.flow_floor.specs.declared.floor.Floor.{Floor}
 use Rattle.flow_floor.specs.declared.floor.Worker.{Worker}
 use Rattle.flow_floor.specs.Floors.{asked_of, readied_of, process_count, IsIdleAt}

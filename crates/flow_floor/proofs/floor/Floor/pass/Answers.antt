@@ -19,8 +19,8 @@ loop-count-preserved g c = let f = c.args.self.now in let inv = c.loop-count.inv
   λ none. absurd (omega (arith, none)),
   (let turned = e.turned c.if-not-go_on.false in omega (arith, turns-rest g.K.Component.rules c.go_on.new.held.body c.goes_on.new.self.body t.rests, turned.turns, inv.7)),
   (let turned = e.turned c.if-not-go_on.false in
-    between-more (g.G.Gate.has_passed c.args.gate.now) c.args.held.now.body.process.turns c.loop-count.count c.loop-count.held.body.process.turns inv.7
-    (subst (λ (n : ℕ). (maker : ℕ) × g.G.Gate.has_passed c.args.gate.now maker n) turned.turns (t.gated c.if-not-goes_on.false turned.owes)) inv.8),
+      between-more (g.G.Gate.has_passed c.args.gate.now) c.args.held.now.body.process.turns c.loop-count.count c.loop-count.held.body.process.turns inv.7
+      (subst (λ (n : ℕ). (maker : ℕ) × g.G.Gate.has_passed c.args.gate.now maker n) turned.turns (t.gated c.if-not-goes_on.false turned.owes)) inv.8),
 )
 
 pub returns-then-not-go_on-clause-passed : goal.returns-then-not-go_on-clause-passed
