@@ -41,29 +41,6 @@ const LIMITS: &[(usize, usize)] = &[
     (AMOUNT_LIMIT as usize, 1_000_000_000_000_000),
 ];
 
-const LIMITS: &[(usize, usize)] = &[
-    (PROCESS_LIMIT, 128),
-    (CONNECTION_LIMIT, 512),
-    (ELEMENT_LIMIT, 512),
-    (LAST_ELEMENT as usize, 511),
-    (PORT_LIMIT, 4_096),
-    (CAPACITY_LIMIT as usize, 4_096),
-    (FIRST_CAPACITY_LIMIT as usize, 1_024),
-    (CAPACITY_SUM_LIMIT as usize, 65_536),
-    (SENDER_LIMIT, 65_535),
-    (TEXT_LIMIT, 1_048_576),
-    (PATTERN_LIMIT, 65_536),
-    (HANDS_LIMIT, 4_096),
-    (TURN_LIMIT, 8_388_608),
-    (STATEMENT_LIMIT, 4_096),
-    (SUBNET_PROCESS_LIMIT, 512),
-    (NUMBER_LIMIT as usize, 100),
-    (WORKER_LIMIT as usize, 32),
-    (FILE_LIMIT as usize, 16_777_216),
-    (JOURNAL_FILE_LIMIT as usize, 3_221_225_488),
-    (RUN_LIMIT, 1_073_741_824),
-];
-
 #[test]
 fn the_limits_are_those_that_are_told(rt: HostRuntime) {
     for (limit, told) in LIMITS {

@@ -34,7 +34,7 @@ fn a_part_is_dropped_when_its_process_has_ended(rt: HostRuntime) -> Result<(), F
     assert!(rt; called.shelf.file("out") == Some(b"a\n1\n".as_slice()));
     assert_eq!(rt; called.tapes.len(), 2);
     for tape in &called.tapes {
-        assert!(rt; tape.entries().len() >= 4);
+        assert!(rt; tape.len() >= 4);
     }
     assert_eq!(rt; drops.load(Ordering::SeqCst), 2);
     Ok(())

@@ -69,11 +69,11 @@ fn another_answer_is_read(rt: HostRuntime) -> Result<(), Fail> {
     let mut file = NUMBERED.to_vec(alloc)?;
     file[16] = 2;
     let mut read = from_bytes(alloc, &file).ok().ok_or("refused")?;
+    assert_eq!(rt; to_bytes(alloc, &read)?.as_slice(), file.as_slice());
     assert_eq!(rt; read.len(), 1);
     let tape = &mut read[0];
     assert_eq!(rt; tape.len(), 6);
     assert_eq!(rt; answer_at(tape, 0)?, Some(Answer::End));
-    assert_eq!(rt; to_bytes(alloc, &read)?.as_slice(), file.as_slice());
     Ok(())
 }
 

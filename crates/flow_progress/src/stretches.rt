@@ -8,7 +8,7 @@ use flow_catalogue::Std;
 use flow_component::NoGate;
 use flow_machine::{Closed, Net, Status};
 use flow_rig::TrialStop;
-use flow_runner::{RunStop, run_for, two_stretches_are_one};
+use flow_runner::{RunStop, Worked, run_for, two_stretches_are_one};
 use std::alloc::{AllocError, Global};
 use std::sync::Wait;
 use std::thread::Threads;
@@ -82,7 +82,7 @@ pub(crate) fn to_the_end<R: Threads + Wait + Sync + Eprint>(
     let mut net = net;
     for _ in rt.forever() {
         let before = net.turns_made() as u64;
-        let closed = run_for(rt, alloc, net, WORKERS, &NoGate, STRETCH)?.into_closed();
+        let Worked { closed, crew: _ } = run_for(rt, alloc, net, WORKERS, &NoGate, STRETCH)?;
         tell(rt, &closed.net);
         if (closed.net.turns_made() as u64) < before + WORKERS as u64 * STRETCH {
             return Ok(closed);

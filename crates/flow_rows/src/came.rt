@@ -51,7 +51,7 @@ impl Came {
             self.seen.push(u64::from(*number))?;
         }
         for tape in &outcome.tapes {
-            self.entries.push(tape.entries().len() as u64)?;
+            self.entries.push(tape.len() as u64)?;
         }
         Ok(())
     }

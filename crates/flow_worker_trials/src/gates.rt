@@ -130,7 +130,7 @@ const LATE: &[File<'static>] = &[
         "net",
         b"flow 2\n'many' -> FILE A(ReadLines)\nA OUT -> IN W(WriteLines)\n'w' -> FILE W\nW *OUT -> *IN B(ReadLines)\n'i' -> FILE B\nB OUT -> IN V(WriteLines)\n'v' -> FILE V\n",
     ),
-    ("many", &[b'\n'; 20_000]),
+    ("many", &[b'\n'; 2_000]),
     ("i", b"x\ny\n"),
 ];
 
