@@ -1,41 +1,54 @@
 //! The program `flow`, over real files: runs the network of a file, by workers where it is asked for them, and may keep
 //! the journal of the run and its tapes; checks or judges a network file; prints the kinds of processes; makes the turns
 //! of a journal again; or runs the network that is made from a number; and prints what comes of it. Whoever sits at a
-//! shell uses it. What is promised is the contract of the top calls in `flow_cli`; here stand the shelf over real files,
-//! the component that is handed in beside the standard ones, and the help on the standard error, of which no clause
-//! speaks.
+//! shell uses it. Here stands the component that it hands in beside the standard ones; all else is in `flow_program`.
 #![tactic(auto)]
 
-mod explain;
-mod own;
-mod words;
-
-use crate::explain::explain;
-use crate::own::call;
-use flow_cli::Status;
-use flow_explain::{expect_kept, words_of};
-use flow_files::{FileShelf, StdSink};
-use std::env;
+use flow_cli::OwnKind;
+use flow_files::StdSink;
+use flow_number::{Number, number_is_an_own_kind, number_kind};
+use flow_own::Part;
+use flow_program::{no_memory, program};
+use std::alloc::{AllocError, Global};
+use std::env::{self, Args};
+use std::fs::{File, Files};
+use std::io;
 use std::process::ExitCode;
+use std::sync::Wait;
+use std::thread::Threads;
+
+/// How many processes of a network may be of the kind Number.
+const PARTS: usize = 8;
+
+// Does what the words ask for, with PARTS parts of the kind Number. It is the example of one's own, and each part of it is changed through the interface
+// of all parts alone.
+fn numbering<
+    R: Files<File = File> + Eprint + Threads + Wait + Sync + Drop,
+    P: Print + Drop,
+    Q: Print + Drop,
+>(
+    alloc: Global,
+    rt: &R,
+    args: io::Result<Args>,
+    out: StdSink<P>,
+    err: StdSink<Q>,
+) -> Result<ExitCode, AllocError> {
+    let mut parts: Vec<Box<dyn Part + Send>> = Vec::new(alloc);
+    for _ in 0..PARTS {
+        parts.push(Box::new(alloc, Number::new(alloc))?)?;
+    }
+    let spec = number_kind(alloc)?;
+    let mut own = Vec::new(alloc);
+    own.push(OwnKind { spec, parts })?;
+    number_is_an_own_kind();
+    Ok(program(alloc, rt, args, out, err, own))
+}
 
 fn main(rt: HostRuntime) -> ExitCode {
-    let alloc = rt.alloc();
-    let Ok(words) = words_of(alloc, env::args(&rt)) else {
-        return ExitCode::from(Status::NoMemory.code());
-    };
-    let mut shelf = FileShelf::new(alloc, &rt);
-    if expect_kept(alloc, &mut shelf, &words).is_err() {
-        return ExitCode::from(Status::NoMemory.code());
+    let out = StdSink::new(&rt);
+    let err = StdSink::new(rt.stderr());
+    match numbering(rt.alloc(), &rt, env::args(&rt), out, err) {
+        Ok(code) => code,
+        Err(AllocError) => no_memory(),
     }
-    let mut out = StdSink::new(&rt);
-    let Ok(outcome) = call(&rt, alloc, &words, &mut shelf, &mut out) else {
-        return ExitCode::from(Status::NoMemory.code());
-    };
-    let status = outcome.status;
-    let reason = match out.reason() {
-        Some(reason) => Some(reason),
-        None => shelf.reason(),
-    };
-    explain(alloc, &rt, &words, status, reason);
-    ExitCode::from(status.code())
 }

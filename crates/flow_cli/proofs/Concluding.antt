@@ -2,6 +2,7 @@
 use Rattle.std.proofs.Common.{◌≡◌, List, Ok, ap, inl, sym, subst}
 use Rattle.std.specs.Prelude.{String}
 use Rattle.std.specs.declared.alloc.Global.{Global}
+use Rattle.flow_cli.specs.After.{Outputs}
 use Rattle.flow_text.specs.Edge.{Outside}
 use Rattle.flow_words.specs.Words.{run_of}
 use Rattle.flow_cli.specs.Live.{AnyNet}
@@ -30,7 +31,7 @@ says-behind : (words : List (String Global)) (own : List Offer) (o a n : Outside
 says-behind words own o a n said same says = subst (λ (x : Outside). Says (so_far words own o x (recorded_in said)) said.text.items said.status) (sym same) says
 
 -- An ended call came to its end well.
-pub done-over : (words : List (String Global)) (own : List Offer) (o a n po pn : Outside) (done : Done AnyNet) (outcome : Outcome) → Performs own o a words (Ok done) → Concludes a n po pn done outcome
+pub done-over : (words : List (String Global)) (own : List Offer) (o a n : Outside) (po pn : Outputs) (done : Done AnyNet) (outcome : Outcome) → Performs own o a words (Ok done) → Concludes a n po pn done outcome
     → IsOver outcome.status → ComesToEnd (call_of words own o n po pn (recorded_of outcome) outcome.status)
 done-over words own o a n po pn (HasRan run) outcome has did over =
     subst (λ (r : Recorded). ComesToEnd (call_of words own o n po pn r outcome.status)) (sym did.1) (ran-well words own o a n po pn run outcome.status has did.0 over)
@@ -39,7 +40,7 @@ done-over words own o a n po pn (HasSaid said) outcome says did over =
     (said-well words own o n po pn said outcome.status (says-behind words own o a n said did.0 says.0) did.1 over)
 
 -- A finished one left what its network means.
-pub done-meaning : Laws → (words : List (String Global)) (own : List Offer) (o a n po pn : Outside) (done : Done AnyNet) (outcome : Outcome) → Performs own o a words (Ok done)
+pub done-meaning : Laws → (words : List (String Global)) (own : List Offer) (o a n : Outside) (po pn : Outputs) (done : Done AnyNet) (outcome : Outcome) → Performs own o a words (Ok done)
     → Concludes a n po pn done outcome → IsFinished outcome.status → LeavesMeaning (so_far words own o n (recorded_of outcome))
 done-meaning laws words own o a n po pn (HasRan run) outcome has did finished =
     subst (λ (r : Recorded). LeavesMeaning (so_far words own o n r)) (sym did.1) (meant laws words own o a n po pn run outcome.status has did.0 finished)
@@ -48,7 +49,7 @@ done-meaning laws words own o a n po pn (HasSaid said) outcome says did finished
     (said-meaning words own o n po pn said outcome.status (says-behind words own o a n said did.0 says.0) did.1)
 
 -- Its status has its cause.
-pub done-cause : (words : List (String Global)) (own : List Offer) (o a n po pn : Outside) (done : Done AnyNet) (outcome : Outcome) → Performs own o a words (Ok done) → Concludes a n po pn done outcome
+pub done-cause : (words : List (String Global)) (own : List Offer) (o a n : Outside) (po pn : Outputs) (done : Done AnyNet) (outcome : Outcome) → Performs own o a words (Ok done) → Concludes a n po pn done outcome
     → IsCaused (call_of words own o n po pn (recorded_of outcome) outcome.status)
 done-cause words own o a n po pn (HasRan run) outcome has did =
     subst (λ (r : Recorded). IsCaused (call_of words own o n po pn r outcome.status)) (sym did.1) (ran-caused words own o a n po pn run outcome.status has did.0)
@@ -57,7 +58,7 @@ done-cause words own o a n po pn (HasSaid said) outcome says did =
     (said-caused words own o n po pn said outcome.status (says-behind words own o a n said did.0 says.0) did.1)
 
 -- Where its network can go on, a replay was asked for.
-pub done-status : (words : List (String Global)) (own : List Offer) (o a n po pn : Outside) (done : Done AnyNet) (outcome : Outcome) → Performs own o a words (Ok done) → Concludes a n po pn done outcome
+pub done-status : (words : List (String Global)) (own : List Offer) (o a n : Outside) (po pn : Outputs) (done : Done AnyNet) (outcome : Outcome) → Performs own o a words (Ok done) → Concludes a n po pn done outcome
     → outcome.status ≡ Running → IsReplay words
 done-status words own o a n po pn (HasRan run) outcome has did is = ran-status words own o a n po pn run outcome.status has did.0 is
 done-status words own o a n po pn (HasSaid said) outcome says did is =
@@ -65,7 +66,7 @@ done-status words own o a n po pn (HasSaid said) outcome says did is =
 
 -- Where no count rose and all that was read is valid, it came to its end, or memory was wanting.
 pub done-complete : Laws
-    → (words : List (String Global)) (own : List Offer) (o a n po pn : Outside) (done : Done AnyNet) (outcome : Outcome) → Performs own o a words (Ok done) → Concludes a n po pn done outcome
+    → (words : List (String Global)) (own : List Offer) (o a n : Outside) (po pn : Outputs) (done : Done AnyNet) (outcome : Outcome) → Performs own o a words (Ok done) → Concludes a n po pn done outcome
     → IsComplete (call_of words own o n po pn (recorded_of outcome) outcome.status)
 done-complete laws words own o a n po pn (HasRan run) outcome has did =
     subst (λ (r : Recorded). IsComplete (call_of words own o n po pn r outcome.status)) (sym did.1) (ran-complete words own o a n po pn run outcome.status has did.0 laws)
@@ -80,7 +81,7 @@ made-same words crew new_crew journal new_journal same_journal same_crew made =
     subst (λ (j : Journal). IsMadeAsAsked words new_crew j) (sym same_journal) (subst (λ (c : Crew). IsMadeAsAsked words c journal) (sym same_crew) made)
 
 -- Its turns were made by as many workers as were asked for.
-pub done-manned : (words : List (String Global)) (own : List Offer) (o a n po pn : Outside) (done : Done AnyNet) (outcome : Outcome) → Performs own o a words (Ok done) → Concludes a n po pn done outcome → IsManned words outcome
+pub done-manned : (words : List (String Global)) (own : List Offer) (o a n : Outside) (po pn : Outputs) (done : Done AnyNet) (outcome : Outcome) → Performs own o a words (Ok done) → Concludes a n po pn done outcome → IsManned words outcome
 done-manned words own o a n po pn (HasRan run) outcome has did =
     inl (made-same words run.ran.crew outcome.crew run.ran.journal outcome.journal (ap (λ (r : Recorded). r.journal) did.1) did.2 (as-asked words (run_of has.asked) run.ran.crew run.ran.journal has.asks has.made))
 done-manned words own o a n po pn (HasSaid said) outcome says did = inl (made-same words said.crew outcome.crew said.journal outcome.journal (ap (λ (r : Recorded). r.journal) did.2) did.3 says.1)

@@ -2,6 +2,7 @@
 use Rattle.std.proofs.Common.{List, Ok}
 use Rattle.std.specs.Prelude.{String}
 use Rattle.std.specs.declared.alloc.Global.{Global}
+use Rattle.flow_cli.specs.After.{Outputs}
 use Rattle.flow_text.specs.Edge.{Outside}
 use Rattle.flow_cli.specs.Live.{AnyNet}
 use Rattle.flow_load.specs.Causes.{HasCause}
@@ -21,7 +22,7 @@ use Rattle.flow_cli.proofs.Tops.{stopped, stop-not-over, stop-not-running, stop-
 use Rattle.flow_cli.proofs.Updating.{collates-each, leaves-books}
 
 -- A call in which something was done keeps them, by the laws of plans, of meanings, of one outcome and of journals.
-pub done-keeps : Laws → (words : List (String Global)) (own : List Offer) (o a n po pn : Outside) (done : Done AnyNet) (outcome : Outcome) → Performs own o a words (Ok done) → Concludes a n po pn done outcome
+pub done-keeps : Laws → (words : List (String Global)) (own : List Offer) (o a n : Outside) (po pn : Outputs) (done : Done AnyNet) (outcome : Outcome) → Performs own o a words (Ok done) → Concludes a n po pn done outcome
     → KeepsPromises (call_of words own o n po pn (recorded_of outcome) outcome.status)
 done-keeps laws words own o a n po pn done outcome did concludes =
     let call = call_of words own o n po pn (recorded_of outcome) outcome.status in
@@ -39,7 +40,7 @@ done-keeps laws words own o a n po pn done outcome did concludes =
     }
 
 -- So does a call that stopped.
-pub stop-keeps : Laws → (words : List (String Global)) (own : List Offer) (o n po pn : Outside) (recorded : Recorded) (status : Status) (stop : Stop)
+pub stop-keeps : Laws → (words : List (String Global)) (own : List Offer) (o n : Outside) (po pn : Outputs) (recorded : Recorded) (status : Status) (stop : Stop)
     → HasCause (so_far words own o n recorded) stop → PrintsStop po pn stop status → KeepsPromises (call_of words own o n po pn recorded status)
 stop-keeps laws words own o n po pn recorded status stop cause prints =
     let not_over = stop-not-over po pn stop status prints in

@@ -67,6 +67,7 @@ told-of rules plan net last told valid tell fit count reached is =
       tells = tell plan net last fit few reached;
       verdict = is.verdict;
       text = is.report;
+      brief = is.brief;
     }
 
 -- a journal of a run has a file

@@ -21,15 +21,16 @@ use Rattle.flow_meanings.specs.Means.{Means}
 use Rattle.flow_journal.specs.Replays.{schedule_of}
 use Rattle.flow_offer.specs.Processes.{own_processes}
 use Rattle.flow_played.specs.Others.{others, as_mixed}
+use Rattle.flow_words.specs.Words.{report_by}
 use Rattle.flow_cli.specs.Live.{AnyNet}
-use Rattle.flow_cli.specs.After.{Prints, verdict_status}
+use Rattle.flow_cli.specs.After.{Outputs, verdict_status}
 use Rattle.flow_load.specs.Many.{WritesAll}
 use Rattle.flow_cli.specs.Meant.{LeavesMeaning}
 use Rattle.flow_load.specs.Offers.{AnyKind, Offer, net_rules, specs_of}
 use Rattle.flow_load.specs.Prepare.{so_far}
 use Rattle.flow_load.specs.Runs.{bytes_in, written_in}
 use Rattle.flow_load.specs.Statuses.{IsFinished as IsFinishedStatus, IsOver}
-use Rattle.flow_cli.specs.Top.{HasRun, Finishes, outputs_of_run, recorded_by}
+use Rattle.flow_cli.specs.Top.{HasRun, Finishes, PrintsReport, outputs_of_run, recorded_by}
 use Rattle.flow_cli.specs.declared.run.Unwritten.{Unwritten}
 use Rattle.flow_load.specs.declared.status.Status.{Status}
 use Rattle.flow_load.specs.declared.status.Status.TheVariants as statuses
@@ -91,7 +92,7 @@ finished-standard laws s ended = λ p x there.
     ended p (with_component x (Other x.component)) (laws.in_place s p ∙ ap (option_map (λ (x : Process Std). with_component x (Other x.component))) there)
 
 -- with the laws of plans and of meanings, a run that finished left what its network means
-module _ (laws : Laws) (words : List (String Global)) (own : List Offer) (o a n po pn : Outside) (run : Unwritten AnyNet) (status : Status) (has : HasRun (specs_of own) o a words run) where
+module _ (laws : Laws) (words : List (String Global)) (own : List Offer) (o a n : Outside) (po pn : Outputs) (run : Unwritten AnyNet) (status : Status) (has : HasRun (specs_of own) o a words run) where
   composed : IsFinished has.leaves.last → own_processes (specs_of own) run.ran.plan ≡ [] → (standard : List Std) × (has.leaves.components ≡ others standard) × Composes run.ran.plan standard (bytes_in has.leaves.last)
   composed ends none =
       let kinds = specs_of own in
@@ -110,7 +111,7 @@ module _ (laws : Laws) (words : List (String Global)) (own : List Offer) (o a n 
       let composes = laws.composes plan standard (schedule_of run.ran.journal) stood.0 well (are-first plan has.given standard are) led finished in
       (standard, found.1, composes-same plan standard (wrote_in stood.0) (bytes_in last) (λ p. ap (λ (s : State AnyKind). bytes_in s p) stood.1 ∙ bytes-standard laws stood.0 p) composes)
 
-  left : WritesAll a n (outputs_of_run run) → Prints po pn run.ran.report.text.items (verdict_status run.ran.report.verdict) status → IsFinishedStatus status
+  left : WritesAll a n (outputs_of_run run) → PrintsReport po pn (report_by run.telling) run.ran.report status → IsFinishedStatus status
       → LeavesMeaning (so_far words own o n (recorded_by run.ran))
   unfolding whole-run run-of
   left w (inl p) finished =

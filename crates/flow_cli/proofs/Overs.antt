@@ -9,7 +9,7 @@ use Rattle.flow_plan.specs.Network.{Network}
 use Rattle.flow_machine.specs.Values.{NetValue}
 use Rattle.flow_runner.specs.declared.worked.Crew.{Crew}
 use Rattle.flow_runner.specs.declared.worked.Worked.{Worked}
-use Rattle.flow_words.specs.Words.{AskedRun, Make, run_by}
+use Rattle.flow_words.specs.Words.{AskedRun, Make, report_by, run_by}
 use Rattle.flow_words.specs.declared.asked.RunCommand.{RunCommand}
 use Rattle.flow_own.specs.declared.tape.Tape.{Tape}
 use Rattle.flow_journal.specs.declared.merge.Journal.{Journal}
@@ -49,8 +49,8 @@ use Rattle.flow_load.proofs.NoKinds.{none-own}
 -- A run that was under way has been made.
 pub run-over : (own : List KindSpec) (old new : Outside) (words : List (String Global)) (plan : Network) (asked : AskedRun) (start : NetValue AnyKind) (worked : Worked AnyKind) (run : Unwritten AnyNet)
     → IsRunUnderWay own old new words plan asked start → RanBy asked.workers start worked → run.ran.plan ≡ plan → LeavesAsRan own plan worked run.ran
-    → kept_file run.journal ≡ journal_file asked.journal run.ran.journal → kept_file run.tapes ≡ tapes_file asked.tapes run.ran.tapes.items → HasRun own old new words run
-run-over own old new words plan asked start worked run way by plan_is leaves journal tapes =
+    → kept_file run.journal ≡ journal_file asked.journal run.ran.journal → kept_file run.tapes ≡ tapes_file asked.tapes run.ran.tapes.items → report_by run.telling ≡ asked.report → HasRun own old new words run
+run-over own old new words plan asked start worked run way by plan_is leaves journal tapes telling =
     let left = leaves asked.workers start way.components way.given way.live way.starts by in
     record {
       asked = asked;
@@ -60,6 +60,7 @@ run-over own old new words plan asked start worked run way by plan_is leaves jou
       leaves = subst (λ (p : Network). Leaves own asked.workers p way.given run.ran.net (recorded_by run.ran) run.ran.report) (sym plan_is) left.0;
       made = left.1;
       kept = ap (λ (l : List Filled). l ++ kept_file run.tapes) journal ∙ ap (λ (l : List Filled). journal_file asked.journal run.ran.journal ++ l) tapes;
+      telling = telling;
     }
 
 no-tapes : (plan : Network) (given : List (List ℕ)) (tapes : List Taped) (components : List AnyKind) → AreComponents [] plan given tapes components → tapes ≡ []
@@ -111,12 +112,12 @@ tapes-writable own plan asked worked ran was leaves = let way = was.4 in (leaves
 -- Whatever comes of making the files of a run.
 pub run-ends : (own : List KindSpec) (plan : Network) (asked : AskedRun) (worked : Worked AnyKind) (ran : Ran AnyNet) (result : Result (Unwritten AnyNet) AllocError) → ran.plan ≡ plan → LeavesAsRan own plan worked ran
     → IfOk result (λ run. run.ran ≡ ran) → IfOk result (λ run. kept_file run.journal ≡ journal_file asked.journal ran.journal)
-    → IfOk result (λ run. kept_file run.tapes ≡ tapes_file asked.tapes ran.tapes.items) → IfOk result (RunEnds own plan asked worked)
-run-ends own plan asked worked ran (Err e) plan_is leaves same journal tapes = tt
-run-ends own plan asked worked ran (Ok run) plan_is leaves same journal tapes = λ old new words start way by.
+    → IfOk result (λ run. kept_file run.tapes ≡ tapes_file asked.tapes ran.tapes.items) → IfOk result (λ run. report_by run.telling ≡ asked.report) → IfOk result (RunEnds own plan asked worked)
+run-ends own plan asked worked ran (Err e) plan_is leaves same journal tapes telling = tt
+run-ends own plan asked worked ran (Ok run) plan_is leaves same journal tapes telling = λ old new words start way by.
     let leaves_run = subst (LeavesAsRan own plan worked) (sym same) leaves in
     run-over own old new words plan asked start worked run way by (ap (λ (r : Ran AnyNet). r.plan) same ∙ plan_is) leaves_run
-    (journal ∙ ap (λ (r : Ran AnyNet). journal_file asked.journal r.journal) (sym same)) (tapes ∙ ap (λ (r : Ran AnyNet). tapes_file asked.tapes r.tapes.items) (sym same))
+    (journal ∙ ap (λ (r : Ran AnyNet). journal_file asked.journal r.journal) (sym same)) (tapes ∙ ap (λ (r : Ran AnyNet). tapes_file asked.tapes r.tapes.items) (sym same)) telling
 
 pub make-ends : (plan : Network) (number : ℕ) (worked : Worked AnyKind) (ran : Ran AnyNet) (result : Result Said AllocError) → ran.plan ≡ plan → LeavesAsRan [] plan worked ran → IfOk result (SaysOfMake number ran)
     → IfOk result (MakeEnds plan number worked)

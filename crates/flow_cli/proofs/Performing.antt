@@ -5,11 +5,11 @@ use Rattle.std.specs.declared.alloc.Global.{Global}
 use Rattle.std.specs.declared.option.Option.{Option}
 use Rattle.flow_text.specs.Edge.{Outside, Name}
 use Rattle.flow_plan.specs.Network.{Network}
-use Rattle.flow_words.specs.Words.{Check, Judge, Kinds, Replay}
+use Rattle.flow_words.specs.Words.{Check, Judge, Page, Replay}
 use Rattle.flow_parse.specs.Canonical.{canonical}
 use Rattle.flow_parse.specs.declared.value.NetText.{NetText}
 use Rattle.flow_determinate.specs.Standard.{IsDeterminate}
-use Rattle.flow_kinds.specs.Page.{kinds_page}
+use Rattle.flow_words.specs.declared.asked.Page.{Page as PageName}
 use Rattle.flow_journal.specs.Replays.{schedule_of}
 use Rattle.flow_journal.specs.Runs.{IsScheduled}
 use Rattle.flow_load.specs.Step.{OnlyReads, MayRead, whole}
@@ -20,7 +20,7 @@ use Rattle.flow_load.specs.Reads.{Asks, AreTapes, IsFile, IsJournalFile}
 use Rattle.flow_load.specs.Causes.{HasCause}
 use Rattle.flow_load.specs.Prepare.{IsReadyAgain, so_far}
 use Rattle.flow_cli.specs.Leaves.{MakesAgain}
-use Rattle.flow_cli.specs.Top.{Says, SaysTurnsAgain, TellsWhether, answer, recorded_in}
+use Rattle.flow_cli.specs.Top.{Says, SaysTurnsAgain, TellsWhether, answer, page_text, recorded_in}
 use Rattle.flow_load.specs.declared.before.Again.{Again}
 use Rattle.flow_cli.specs.declared.run.Said.{Said}
 use Rattle.flow_load.specs.declared.status.Status.TheVariants.{Finished}
@@ -131,7 +131,7 @@ says-judged o a words own name net text plan said asks only file tells status em
   status_is = status;
 }))))
 
--- the page of kinds
-pub says-kinds : (o a : Outside) (words : List (String Global)) (own : List Offer) (said : Said) → Asks words Kinds → a ≡ o → said.text.items ≡ kinds_page → said.status ≡ Finished
+-- a page
+pub says-page : (o a : Outside) (words : List (String Global)) (own : List Offer) (page : PageName) (said : Said) → Asks words (Page page) → a ≡ o → said.text.items ≡ page_text (specs_of own) page → said.status ≡ Finished
     → IsNothing (recorded_in said) → Says (so_far words own o a (recorded_in said)) said.text.items said.status
-says-kinds o a words own said asks same text status empty = inr (inr (inr (inr (record { asks = asks; shelf = same; nothing = empty; text_is = text; status_is = status }))))
+says-page o a words own page said asks same text status empty = inr (inr (inr (inr (record { page = page; asks = asks; shelf = same; nothing = empty; text_is = text; status_is = status }))))

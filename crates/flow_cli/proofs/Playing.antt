@@ -203,7 +203,7 @@ bytes-played laws by s p = at (slice_get s.kept.processes p) ∙ ap (λ (found :
 
 -- What is told of a state is told of it with the players.
 told-played : Players → (by : ℕ → Taped) (plan : Network) (s : State AnyKind) (told : PrintedReport) → IsToldOf plan s told → IsToldOf plan (played by s) told
-told-played laws by plan s told is = record { report = is.report; tells = laws.told by plan s is.report is.tells; verdict = is.verdict; text = is.text }
+told-played laws by plan s told is = record { report = is.report; tells = laws.told by plan s is.report is.tells; verdict = is.verdict; text = is.text; brief = is.brief }
 
 -- Where the players are those of these tapes, each has played the whole of its own.
 played-out : (by : ℕ → Taped) (s : State AnyKind) → TapesOf by s → ArePlayedOut (played by s)

@@ -1,19 +1,21 @@
 -- What stands after a run and the writing of its files.
-use Rattle.std.proofs.Common.{◌≡◌, ◌∙◌, inl, inr, ℕ, List, ◌++◌, Err, ap, subst}
+use Rattle.std.proofs.Common.{◌≡◌, ◌∙◌, inl, inr, ℕ, List, ◌++◌, Err, ap, ap₂, subst}
 use Rattle.std.specs.Prelude.{String, string_bytes}
 use Rattle.std.specs.declared.alloc.Global.{Global}
 use Rattle.flow_cli.specs.Live.{AnyNet}
 use Rattle.flow_load.specs.Offers.{Offer, specs_of}
 use Rattle.flow_text.specs.Edge.{Outside, Name}
-use Rattle.flow_report.specs.Text.{report_text}
+use Rattle.flow_words.specs.Words.{AskedReport, report_by}
+use Rattle.flow_report.specs.Text.{Told as Report, report_text}
+use Rattle.flow_report.specs.declared.report.Verdict.{Verdict}
 use Rattle.flow_load.specs.Step.{Filled}
 use Rattle.flow_load.specs.Many.{WritesFiles, WritesAll, EndsAt, FailsAt}
-use Rattle.flow_cli.specs.After.{Prints, verdict_status}
+use Rattle.flow_cli.specs.After.{Outputs, Prints, printed_by, printed_text, remarked_by, remarked_text, verdict_status}
 use Rattle.flow_load.specs.Causes.{IsRunOf, IsWriteFault, HasCause}
-use Rattle.flow_cli.specs.Top.{IsWhole, HasRun, kept_file, outputs_of_run, recorded_by}
+use Rattle.flow_cli.specs.Top.{IsWhole, HasRun, PrintsReport, kept_file, outputs_of_run, recorded_by}
 use Rattle.flow_cli.specs.declared.run.Unwritten.{Unwritten}
-use Rattle.flow_cli.specs.Leaves.{bytes_at}
-use Rattle.flow_load.specs.Runs.{bytes_in, files_of_run, outputs_of}
+use Rattle.flow_cli.specs.Leaves.{bytes_at, net_outputs}
+use Rattle.flow_load.specs.Runs.{bytes_in, files_of_run, kept_files, outputs_of, report_file}
 use Rattle.flow_cli.proofs.Leaving.{outputs-same}
 use Rattle.flow_load.specs.declared.status.Status.{Status}
 use Rattle.flow_load.specs.declared.stop.Stop.{Stop}
@@ -33,9 +35,14 @@ module _ (o a n : Outside) (words : List (String Global)) (own : List Offer) (ru
     tapes_writable = has.leaves.tapes_writable;
   }
 
+  -- The files but for that of the report.
+  kept-files : net_outputs run.ran.plan run.ran.net ++ (kept_file run.journal ++ kept_file run.tapes) ≡ outputs_of run.ran.plan has.leaves.last ++ kept_files has.asked (recorded_by run.ran)
+  kept-files = ap (λ l. l ++ (kept_file run.journal ++ kept_file run.tapes)) (outputs-same (bytes_at run.ran.net.bodies) (bytes_in has.leaves.last) has.leaves.wrote 0 run.ran.plan.processes) ∙ ap (λ l. outputs_of run.ran.plan has.leaves.last ++ l) has.kept
+
   -- The files of the code are those of the run.
-  pub files : outputs_of_run run ≡ files_of_run run.ran.plan has.leaves.last has.asked (recorded_by run.ran)
-  files = ap (λ l. l ++ (kept_file run.journal ++ kept_file run.tapes)) (outputs-same (bytes_at run.ran.net.bodies) (bytes_in has.leaves.last) has.leaves.wrote 0 run.ran.plan.processes) ∙ ap (λ l. outputs_of run.ran.plan has.leaves.last ++ l) has.kept
+  pub files : outputs_of_run run ≡ files_of_run run.ran.plan has.leaves.last has.asked (recorded_by run.ran) (report_text has.leaves.told_is.report)
+  files = ap (λ l. l ++ report_file (report_by run.telling).file run.ran.report.text.items) kept-files
+      ∙ ap₂ (λ (asked : AskedReport) (text : List ℕ). (outputs_of run.ran.plan has.leaves.last ++ kept_files has.asked (recorded_by run.ran)) ++ report_file asked.file text) has.telling has.leaves.told_is.text
 
   fails : (written : Name) → FailsAt a n (outputs_of_run run) written → IsWriteFault (so_far words own o n (recorded_by run.ran)) written
   fails written w = record {
@@ -45,6 +52,8 @@ module _ (o a n : Outside) (words : List (String Global)) (own : List Offer) (ru
     last = has.leaves.last;
     middle = a;
     run = run-of;
+    report = has.leaves.told_is.report;
+    tells = has.leaves.told_is.tells;
     fails = subst (λ (l : List Filled). FailsAt a n l written) files w;
   }
 
@@ -58,6 +67,8 @@ module _ (o a n : Outside) (words : List (String Global)) (own : List Offer) (ru
     last = has.leaves.last;
     middle = a;
     run = run-of;
+    report = has.leaves.told_is.report;
+    tells = has.leaves.told_is.tells;
     ends = subst (λ (l : List Filled). EndsAt a n l) files w;
   }))
   stops-writing NoMemory (inr w) = inr (inr (w.0, fails w.0 w.1))
@@ -80,9 +91,8 @@ module _ (o a n : Outside) (words : List (String Global)) (own : List Offer) (ru
     tells = has.leaves.told_is.tells;
   }
 
-  -- what was printed is the report
-  pub printed-report : (po pn : Outside) (status : Status) → Prints po pn run.ran.report.text.items (verdict_status run.ran.report.verdict) status
-      → Prints po pn (report_text has.leaves.told_is.report) (verdict_status has.leaves.told_is.report.verdict) status
-  printed-report po pn status p =
-      subst (λ (s : Status). Prints po pn (report_text has.leaves.told_is.report) s status) (ap verdict_status has.leaves.told_is.verdict)
-      (subst (λ (t : List ℕ). Prints po pn t (verdict_status run.ran.report.verdict) status) has.leaves.told_is.text p)
+  -- what was told is the report
+  pub told-report : (po pn : Outputs) (status : Status) → PrintsReport po pn (report_by run.telling) run.ran.report status
+      → Prints po pn (printed_text has.asked.report has.leaves.told_is.report) (remarked_text has.asked.report has.leaves.told_is.report) (verdict_status has.leaves.told_is.report.verdict) status
+  told-report po pn status p = subst (λ (all : AskedReport × Verdict × List ℕ × List ℕ). Prints po pn (printed_by all.0 all.1 all.2 all.3) (remarked_by all.0 all.1 all.2 all.3) (verdict_status all.1) status)
+      (λ i. (has.telling i, has.leaves.told_is.verdict i, has.leaves.told_is.text i, has.leaves.told_is.brief i)) p

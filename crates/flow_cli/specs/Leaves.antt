@@ -14,7 +14,7 @@ use Rattle.flow_journal.specs.Journals.{NamesTurns, NamesSeen}
 use Rattle.flow_journal.specs.Replays.{schedule_of}
 use Rattle.flow_journal.specs.declared.merge.Journal.{Journal}
 use Rattle.flow_journal.specs.Runs.{IsScheduled}
-use Rattle.flow_report.specs.Text.{Told as Report, report_text}
+use Rattle.flow_report.specs.Text.{Told as Report, brief_text, report_text}
 use Rattle.flow_report.specs.Of.{told_of}
 use Rattle.flow_report.specs.States.{TellsOf}
 use Rattle.flow_load.specs.Step.{Filled}
@@ -31,11 +31,13 @@ pub record IsToldOf (plan : Network) (last : State AnyKind) (told : PrintedRepor
   pub tells : TellsOf plan last report
   pub verdict : told.verdict ≡ report.verdict
   pub text : told.text.items ≡ report_text report
+  pub brief : told.brief.items ≡ brief_text report
 
 -- What is told is the report of the network.
 pub record IsToldOfNet {K : Type 0} (plan : Network) (net : NetValue K) (told : PrintedReport) : Type 0 where
   pub verdict : told.verdict ≡ (told_of plan net).verdict
   pub report : told.text.items ≡ report_text (told_of plan net)
+  pub brief : told.brief.items ≡ brief_text (told_of plan net)
 
 -- The journal names the turns of the network in the order of their stamps and the numbers that they saw, and there are no more of them than a run may have.
 pub record IsJournalOfNet {K : Type 0} (net : NetValue K) (journal : Journal) : Type 0 where

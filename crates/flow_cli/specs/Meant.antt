@@ -3,7 +3,8 @@
 use Rattle.std.specs.Prelude.{◌≡◌, ◌⊎◌, ℕ, List, []}
 use Rattle.std.specs.declared.option.Option.{Option}
 use Rattle.flow_text.specs.Edge.{Name}
-use Rattle.flow_words.specs.Words.{AskedRun, run_of, Check, Judge, Replay, Make, Kinds}
+use Rattle.flow_words.specs.Words.{AskedRun, run_of, Check, Judge, Replay, Make, Page}
+use Rattle.flow_words.specs.declared.asked.Page.{Page as PageName}
 use Rattle.flow_model.specs.Rising.{LeadsOn}
 use Rattle.flow_played.specs.Others.{others}
 use Rattle.flow_offer.specs.Processes.{own_processes}
@@ -26,7 +27,7 @@ pub record IsMeant (w : Work) (asked : AskedRun) : Type 0 where
 
 -- Something else than a run was asked for, and no name has changed.
 pub record ChangesNoName (w : Work) : Type 0 where
-  pub asks : ((name : Name) × Asks w.words (Check name)) ⊎ ((name : Name) × (kept : Name) × (tapes : Option Name) × Asks w.words (Replay name kept tapes)) ⊎ ((number : ℕ) × (workers : ℕ) × Asks w.words (Make number workers)) ⊎ ((name : Name) × Asks w.words (Judge name)) ⊎ Asks w.words Kinds
+  pub asks : ((name : Name) × Asks w.words (Check name)) ⊎ ((name : Name) × (kept : Name) × (tapes : Option Name) × Asks w.words (Replay name kept tapes)) ⊎ ((number : ℕ) × (workers : ℕ) × Asks w.words (Make number workers)) ⊎ ((name : Name) × Asks w.words (Judge name)) ⊎ ((page : PageName) × Asks w.words (Page page))
   pub files : w.after.files ≡ w.before.files
   pub created : w.after.created ≡ w.before.created
 

@@ -10,7 +10,7 @@ use Rattle.flow_load.specs.declared.status.Status.TheVariants.{Running}
 
 -- What every call keeps, by workers or without.
 pub record KeepsPromises (c : Call) : Type 0 where
-  -- A run came to its end, or what writes no file did: a check, a judge, a replay, a make, or the page of kinds.
+  -- A run came to its end, or what writes no file did: a check, a judge, a replay, a make, or a page.
   pub over : IsOver c.status → ComesToEnd c
   -- A run of a determinate plan ends as on one thread, with its status, report and files, whatever its workers did.
   pub one_outcome : IsOver c.status → ComesToEndAsAlone c

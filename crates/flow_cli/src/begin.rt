@@ -88,7 +88,7 @@ pub(crate) fn begin<'a, F: Shelf, P: Part>(
             Ok(said) => Ok(Begun::Said(said)),
             Err(AllocError) => Err(Stop::NoMemory),
         },
-        Task::Kinds => match page(alloc) {
+        Task::Page(asked) => match page(alloc, asked, kinds) {
             Ok(said) => Ok(Begun::Said(said)),
             Err(AllocError) => Err(Stop::NoMemory),
         },

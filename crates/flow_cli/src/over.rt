@@ -3,7 +3,7 @@ ghost use Rattle.std.specs.Prelude.{◌≡◌, [], IfOk, length};
 ghost use Rattle.std.specs.Option.{option_map};
 ghost use Rattle.flow_journal.specs.Files.{IsWritable};
 ghost use Rattle.flow_tape.specs.Files.{IsWritable as IsTapesWritable};
-ghost use Rattle.flow_words.specs.Words.{run_by};
+ghost use Rattle.flow_words.specs.Words.{report_by, run_by};
 ghost use Rattle.flow_offer.specs.Processes.{IsOfferedPlan};
 ghost use Rattle.flow_cli.specs.Begins.{EndsAsRan, MakeEnds, RunEnds, WasRunUnderWay, WasUnderWay};
 ghost use Rattle.flow_load.specs.MadeJobs.{made_input};
@@ -92,12 +92,14 @@ fn unwritten<'a, P: Part>(
     ensures ran { IfOk result (λ run. run.ran ≡ ran) }
     ensures journal { IfOk result (λ run. kept_file run.journal ≡ journal_file (run_by asked.entry).journal ran.journal) }
     ensures tapes { IfOk result (λ run. kept_file run.tapes ≡ tapes_file (run_by asked.entry).tapes ran.tapes.items) }
+    ensures telling { IfOk result (λ run. report_by run.telling ≡ (run_by asked.entry).report) }
 {
     match kept_files(alloc, &ran, asked) {
         Ok((journal, tapes)) => Ok(Unwritten {
             ran,
             journal,
             tapes,
+            telling: asked.report,
         }),
         Err(AllocError) => {
             ran.discard();

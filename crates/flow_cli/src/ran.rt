@@ -32,11 +32,12 @@ pub struct Ran<N> {
     pub report: PrintedReport,
 }
 
-/// The report of what a network came to: its verdict, and its text.
+/// The report of what a network came to: its verdict, its text, and its text in brief.
 #[derive(Drop)]
 pub struct PrintedReport {
     pub verdict: Verdict,
     pub text: Vec<u8>,
+    pub brief: Vec<u8>,
 }
 
 /// What is told of a run: its report, its journal, its tapes, and who made its turns.
@@ -243,5 +244,6 @@ pub fn report_of<K: Component>(
     Ok(PrintedReport {
         verdict: report.verdict(),
         text: report.print()?,
+        brief: report.print_brief()?,
     })
 }

@@ -1,15 +1,15 @@
 //! What there is to write and to print, and what is said where no network has to run: a network file is checked or judged, the turns of a journal are made
-//! again, or the page of kinds is made.
+//! again, or a page is made.
 ghost use Rattle.std.specs.Prelude.{◌≡◌, IfOk, length};
 ghost use Rattle.flow_journal.specs.Files.{IsWritable};
 ghost use Rattle.flow_runner.specs.Crews.{HasWorkers};
-ghost use Rattle.flow_kinds.specs.Page.{kinds_page};
 ghost use Rattle.flow_parse.specs.Canonical.{canonical};
 ghost use Rattle.flow_offer.specs.Processes.{IsOfferedPlan};
 ghost use Rattle.flow_load.specs.Components.{HasComponents};
 ghost use Rattle.flow_load.specs.Offers.{IsEmptyJournal, IsNothing};
-ghost use Rattle.flow_cli.specs.Top.{SaysTurnsAgain, TellsWhether, answer, recorded_in};
+ghost use Rattle.flow_cli.specs.Top.{SaysTurnsAgain, TellsWhether, answer, page_text, recorded_in};
 ghost use Rattle.flow_load.specs.declared.status.Status.TheVariants.{Finished};
+ghost use Rattle.flow_words.specs.declared.asked.Page.TheVariants.{Kinds};
 
 use crate::after::verdict_status;
 use crate::again::replay_net;
@@ -17,12 +17,13 @@ use crate::ran::Ran;
 use flow_determinate::determinate;
 use flow_items::Items;
 use flow_journal::Journal;
-use flow_kinds::kinds_page;
+use flow_kinds::{kinds_page, put_own_kinds};
 use flow_load::{Again, Status, Stop};
 use flow_own::Tape;
 use flow_parse::{NetText, print};
 use flow_plan::{KindSpec, Plan};
 use flow_runner::Crew;
+use flow_words::{Page, ReportCommand, help_page, version_line};
 use std::alloc::{AllocError, Global};
 
 /// A file that a run keeps for a replay: that of its journal, or that of its tapes.
@@ -47,18 +48,20 @@ pub struct Said {
     pub crew: Crew,
 }
 
-/// A run that is over, and the files of its journal and of its tapes where they were named. Nothing of it is written yet.
+/// A run that is over, the files of its journal and of its tapes where they were named, and how its report is to be told. Nothing of it is written yet.
 pub struct Unwritten<'a, N> {
     pub ran: Ran<N>,
     pub journal: Option<Kept<'a>>,
     pub tapes: Option<Kept<'a>>,
+    /// How its report is to be told.
+    pub telling: ReportCommand<'a>,
 }
 
 /// What there is to write and to print.
 pub enum Done<'a, N> {
     /// A run: its files are to be written, and then its report is to be printed.
     Ran(Unwritten<'a, N>),
-    /// The spelling of a checked network file, the answer on a judged one, the page of kinds, or the report of a replay or of a make.
+    /// The spelling of a checked network file, the answer on a judged one, a page, or the report of a replay or of a make.
     Said(Said),
 }
 
@@ -106,20 +109,40 @@ fn answer(yes: bool) -> &'static [u8]
     }
 }
 
-/// The page of the standard kinds.
-pub(crate) fn page(alloc: Global) -> Result<Said, AllocError>
-    ensures text { IfOk result (λ said. said.text.items ≡ kinds_page) }
+/// A page.
+pub(crate) fn page(alloc: Global, page: Page, own: &[KindSpec]) -> Result<Said, AllocError>
+    ensures text { IfOk result (λ said. said.text.items ≡ page_text own.now page) }
     ensures status { IfOk result (λ said. said.status ≡ Finished) }
     ensures nothing { IfOk result (λ said. IsNothing (recorded_in said)) }
     ensures crew { IfOk result (λ said. HasWorkers 0 said.crew) }
 {
     Ok(Said {
-        text: kinds_page(alloc)?,
+        text: page_text(alloc, page, own)?,
         status: Status::Finished,
         journal: no_journal(alloc),
         tapes: Vec::new(alloc),
         crew: Crew::nobody(),
     })
+}
+
+// The text of a page.
+fn page_text(alloc: Global, page: Page, own: &[KindSpec]) -> Result<Vec<u8>, AllocError>
+    ensures { IfOk result (λ text. text.items ≡ page_text own.now page) }
+{
+    match page {
+        Page::Kinds => all_kinds_page(alloc, own),
+        Page::Help => help_page().to_vec(alloc),
+        Page::Version => version_line().to_vec(alloc),
+    }
+}
+
+// The standard kinds, and then those of the caller's own.
+fn all_kinds_page(alloc: Global, own: &[KindSpec]) -> Result<Vec<u8>, AllocError>
+    ensures { IfOk result (λ text. text.items ≡ page_text own.now Kinds) }
+{
+    let mut text = kinds_page(alloc)?;
+    put_own_kinds(&mut text, own)?;
+    Ok(text)
 }
 
 /// Makes the turns of a journal again.

@@ -6,9 +6,11 @@ ghost use Rattle.flow_offer.specs.Kinds.{AreOwnKinds};
 ghost use Rattle.flow_offer.specs.Processes.{IsOfferedPlan};
 ghost use Rattle.flow_runner.specs.Crews.{HasWorkers};
 ghost use Rattle.flow_load.specs.Offers.{AreOffered, IsNothing, Offer, offers_of, specs_of};
+ghost use Rattle.flow_words.specs.Words.{report_by};
+ghost use Rattle.flow_cli.specs.After.{outputs_at};
 ghost use Rattle.flow_cli.specs.Promises.{KeepsPromises};
 ghost use Rattle.flow_load.specs.Reads.{AsksWorkers};
-ghost use Rattle.flow_cli.specs.Top.{Concludes, Finishes, IsManned, IsRunnable, Performs, PrintsStop, PrintsWritten, call_of, recorded_by, recorded_of};
+ghost use Rattle.flow_cli.specs.Top.{Concludes, Finishes, IsManned, IsRunnable, Performs, PrintsReport, PrintsStop, PrintsWritten, call_of, recorded_by, recorded_of};
 
 use crate::after::{print_text, verdict_status, write_outputs};
 use crate::begin::{Begun, begin};
@@ -41,7 +43,7 @@ use flow_report::a_state_has_one_report;
 use flow_runner::Crew;
 use flow_tape::a_file_has_one_list_of_tapes_or_one_fault;
 use flow_text::{Shelf, Sink};
-use flow_words::{Command, command};
+use flow_words::{Command, ReportCommand, command};
 use std::alloc::{AllocError, Global};
 use std::sync::Wait;
 use std::thread::Threads;
@@ -68,7 +70,7 @@ pub fn needs_workers(alloc: Global, words: &[String]) -> Result<bool, AllocError
         Some(Command::Make { workers, .. }) => Ok(workers > 0),
         Some(Command::Check(_)) => Ok(false),
         Some(Command::Judge(_)) => Ok(false),
-        Some(Command::Kinds) => Ok(false),
+        Some(Command::Page(_)) => Ok(false),
         Some(Command::Replay { .. }) => Ok(false),
         None => Ok(false),
     }
@@ -76,48 +78,57 @@ pub fn needs_workers(alloc: Global, words: &[String]) -> Result<bool, AllocError
 
 /// Does what the program does, and waits for nobody: runs the network that the words name on one thread, or the one that is made from a number,
 /// or makes the turns of a journal again in it, and prints the report; or checks the network file and prints its canonical spelling, or judges it
-/// and prints whether its plan is determinate; or prints the page of the standard kinds; or prints why it stopped. The kinds of the caller's own stand beside
+/// and prints whether its plan is determinate; or prints a page; or prints why it stopped. The error output gets nothing but a report in brief whose whole goes to a file. The kinds of the caller's own stand beside
 /// the standard ones.
-pub fn plain_top<F: Shelf, O: Sink, P: Part>(
+pub fn plain_top<F: Shelf, O: Sink, E: Sink, P: Part>(
     alloc: Global,
     words: &[String],
     shelf: &mut F,
     out: &mut O,
+    err: &mut E,
     own: Vec<OwnKind<P>>,
 ) -> Outcome
     requires alone { AsksWorkers words.now → ⊥ }
     requires own { AreOwnKinds (specs_of (offers_of own.items)) }
-    ensures promises { KeepsPromises (call_of words.now (offers_of own.items) (F.outside shelf.old) (F.outside shelf.new) (O.outside out.old) (O.outside out.new) (recorded_of result) result.status) }
+    ensures promises { KeepsPromises (call_of words.now (offers_of own.items) (F.outside shelf.old) (F.outside shelf.new) (outputs_at (O.outside out.old) (E.outside err.old)) (outputs_at (O.outside out.new) (E.outside err.new)) (recorded_of result) result.status) }
     ensures crew { IsManned words.now result }
 {
     let Ok((kinds, parts)) = kinds_and_parts(alloc, own) else {
-        return conclude::<F, O, P>(alloc, shelf, out, Err(Stop::NoMemory), &[]);
+        return conclude::<F, O, E, P>(alloc, shelf, out, err, Err(Stop::NoMemory), &[]);
     };
     let done = perform_alone(alloc, words, shelf, &kinds, parts);
-    conclude(alloc, shelf, out, done, &kinds)
+    conclude(alloc, shelf, out, err, done, &kinds)
 }
 
 /// Does what the program does where the words ask for workers: runs the network that they name, or the one that is made from a number, by so many
 /// workers, each in a thread of its own, and prints the report; or prints why it stopped. Its promises hold if it returns.
-pub fn busy_top<R: Threads + Wait + Sync, F: Shelf, O: Sink, G: Gate + Sync, P: Part + Send>(
+pub fn busy_top<
+    R: Threads + Wait + Sync,
+    F: Shelf,
+    O: Sink,
+    E: Sink,
+    G: Gate + Sync,
+    P: Part + Send,
+>(
     rt: &R,
     alloc: Global,
     words: &[String],
     shelf: &mut F,
     out: &mut O,
+    err: &mut E,
     gate: &G,
     own: Vec<OwnKind<P>>,
 ) -> Outcome
     requires workers { AsksWorkers words.now }
     requires own { AreOwnKinds (specs_of (offers_of own.items)) }
-    ensures promises { KeepsPromises (call_of words.now (offers_of own.items) (F.outside shelf.old) (F.outside shelf.new) (O.outside out.old) (O.outside out.new) (recorded_of result) result.status) }
+    ensures promises { KeepsPromises (call_of words.now (offers_of own.items) (F.outside shelf.old) (F.outside shelf.new) (outputs_at (O.outside out.old) (E.outside err.old)) (outputs_at (O.outside out.new) (E.outside err.new)) (recorded_of result) result.status) }
     ensures crew { IsManned words.now result }
 {
     let Ok((kinds, parts)) = kinds_and_parts(alloc, own) else {
-        return conclude::<F, O, P>(alloc, shelf, out, Err(Stop::NoMemory), &[]);
+        return conclude::<F, O, E, P>(alloc, shelf, out, err, Err(Stop::NoMemory), &[]);
     };
     let done = perform_by_workers(rt, alloc, words, shelf, gate, &kinds, parts);
-    conclude(alloc, shelf, out, done, &kinds)
+    conclude(alloc, shelf, out, err, done, &kinds)
 }
 
 // Does all that comes before something is written or printed; one thread makes the turns.
@@ -171,15 +182,16 @@ fn perform_by_workers<'a, R: Threads + Wait + Sync, F: Shelf, G: Gate + Sync, P:
 }
 
 // Writes what there is to write, and prints what there is to print, or why there is nothing. What was done keeps the promises then.
-fn conclude<F: Shelf, O: Sink, P: Part>(
+fn conclude<F: Shelf, O: Sink, E: Sink, P: Part>(
     alloc: Global,
     shelf: &mut F,
     out: &mut O,
+    err: &mut E,
     done: Result<Done<'_, LiveNet<P>>, Stop>,
     own: &[KindSpec],
 ) -> Outcome
     requires { IfOk done (IsRunnable own.now) }
-    ensures promises { (own : List Offer) (words : List (String Global)) (before : Outside) → Performs own before (F.outside shelf.old) words done.entry → KeepsPromises (call_of words own before (F.outside shelf.new) (O.outside out.old) (O.outside out.new) (recorded_of result) result.status) }
+    ensures promises { (own : List Offer) (words : List (String Global)) (before : Outside) → Performs own before (F.outside shelf.old) words done.entry → KeepsPromises (call_of words own before (F.outside shelf.new) (outputs_at (O.outside out.old) (E.outside err.old)) (outputs_at (O.outside out.new) (E.outside err.new)) (recorded_of result) result.status) }
     ensures crew { (own : List Offer) (words : List (String Global)) (before : Outside) → Performs own before (F.outside shelf.old) words done.entry → IsManned words result }
 {
     each_process_is_standard_or_own();
@@ -202,19 +214,19 @@ fn conclude<F: Shelf, O: Sink, P: Part>(
     a_file_has_one_journal_or_one_fault();
     a_file_has_one_list_of_tapes_or_one_fault();
     match done {
-        Ok(done) => tell(alloc, shelf, out, done, own),
-        Err(stop) => stopped(alloc, out, &stop),
+        Ok(done) => tell(alloc, shelf, out, err, done, own),
+        Err(stop) => stopped(alloc, out, err, &stop),
     }
 }
 
 // What stands after a stop before which no turn was made.
-fn stopped<O: Sink>(alloc: Global, out: &mut O, stop: &Stop) -> Outcome
-    ensures status { PrintsStop (O.outside out.old) (O.outside out.new) stop.now result.status }
+fn stopped<O: Sink, E: Sink>(alloc: Global, out: &mut O, err: &mut E, stop: &Stop) -> Outcome
+    ensures status { PrintsStop (outputs_at (O.outside out.old) (E.outside err.old)) (outputs_at (O.outside out.new) (E.outside err.new)) stop.now result.status }
     ensures nothing { IsNothing (recorded_of result) }
     ensures crew { HasWorkers 0 result.crew }
 {
     Outcome {
-        status: print_stop(alloc, out, stop),
+        status: print_stop(alloc, out, err, stop),
         journal: no_journal(alloc),
         tapes: Vec::new(alloc),
         crew: Crew::nobody(),
@@ -222,20 +234,21 @@ fn stopped<O: Sink>(alloc: Global, out: &mut O, stop: &Stop) -> Outcome
 }
 
 // Writes what there is to write, and then prints what there is to print.
-fn tell<F: Shelf, O: Sink, P: Part>(
+fn tell<F: Shelf, O: Sink, E: Sink, P: Part>(
     alloc: Global,
     shelf: &mut F,
     out: &mut O,
+    err: &mut E,
     done: Done<'_, LiveNet<P>>,
     own: &[KindSpec],
 ) -> Outcome
     requires { IsRunnable own.now done }
-    ensures { Concludes (F.outside shelf.old) (F.outside shelf.new) (O.outside out.old) (O.outside out.new) done.entry result }
+    ensures { Concludes (F.outside shelf.old) (F.outside shelf.new) (outputs_at (O.outside out.old) (E.outside err.old)) (outputs_at (O.outside out.new) (E.outside err.new)) done.entry result }
 {
     match done {
-        Done::Ran(run) => finish(alloc, shelf, out, run, own),
+        Done::Ran(run) => finish(alloc, shelf, out, err, run, own),
         Done::Said(said) => Outcome {
-            status: print_text(out, &said.text, said.status),
+            status: print_text(out, err, &said.text, b"", said.status),
             journal: said.journal,
             tapes: said.tapes,
             crew: said.crew,
@@ -244,15 +257,16 @@ fn tell<F: Shelf, O: Sink, P: Part>(
 }
 
 // Writes the files of a run, and then prints its report.
-fn finish<F: Shelf, O: Sink, P: Part>(
+fn finish<F: Shelf, O: Sink, E: Sink, P: Part>(
     alloc: Global,
     shelf: &mut F,
     out: &mut O,
+    err: &mut E,
     run: Unwritten<'_, LiveNet<P>>,
     own: &[KindSpec],
 ) -> Outcome
     requires { IsOfferedPlan own.now run.ran.plan }
-    ensures files { Finishes (F.outside shelf.old) (F.outside shelf.new) (O.outside out.old) (O.outside out.new) run.entry result.status }
+    ensures files { Finishes (F.outside shelf.old) (F.outside shelf.new) (outputs_at (O.outside out.old) (E.outside err.old)) (outputs_at (O.outside out.new) (E.outside err.new)) run.entry result.status }
     ensures recorded { recorded_of result ≡ recorded_by run.entry.ran }
     ensures crew { result.crew ≡ run.entry.ran.crew }
 {
@@ -261,6 +275,7 @@ fn finish<F: Shelf, O: Sink, P: Part>(
         ran,
         journal: _,
         tapes: _,
+        telling,
     } = run;
     let Account {
         report,
@@ -269,34 +284,50 @@ fn finish<F: Shelf, O: Sink, P: Part>(
         crew,
     } = ran.into_account();
     Outcome {
-        status: print_written(alloc, out, &written, &report),
+        status: print_written(alloc, out, err, &written, telling, &report),
         journal,
         tapes,
         crew,
     }
 }
 
-// Prints the report of a run whose files are written, or why they aren't.
-fn print_written<O: Sink>(
+// Tells the report of a run whose files are written, as it was asked for, or why they aren't.
+fn print_written<O: Sink, E: Sink>(
     alloc: Global,
     out: &mut O,
+    err: &mut E,
     written: &Result<(), Stop>,
+    telling: ReportCommand<'_>,
     report: &PrintedReport,
 ) -> Status
-    ensures { PrintsWritten (O.outside out.old) (O.outside out.new) report.now written.now result }
+    ensures { PrintsWritten (outputs_at (O.outside out.old) (E.outside err.old)) (outputs_at (O.outside out.new) (E.outside err.new)) (report_by telling.entry) report.now written.now result }
 {
     match written {
-        Ok(()) => print_text(out, &report.text, verdict_status(report.verdict)),
-        Err(fault) => print_stop(alloc, out, fault),
+        Ok(()) => print_report(out, err, telling, report),
+        Err(fault) => print_stop(alloc, out, err, fault),
     }
 }
 
+// Tells a report as it was asked for.
+fn print_report<O: Sink, E: Sink>(
+    out: &mut O,
+    err: &mut E,
+    telling: ReportCommand<'_>,
+    report: &PrintedReport,
+) -> Status
+    ensures { PrintsReport (outputs_at (O.outside out.old) (E.outside err.old)) (outputs_at (O.outside out.new) (E.outside err.new)) (report_by telling.entry) report.now result }
+{
+    let text = report.printed(telling);
+    let remark = report.remarked(telling);
+    print_text(out, err, text, remark, verdict_status(report.verdict))
+}
+
 /// Prints the text of a stop, and gives the status that comes of it.
-fn print_stop<O: Sink>(alloc: Global, out: &mut O, stop: &Stop) -> Status
-    ensures { PrintsStop (O.outside out.old) (O.outside out.new) stop.now result }
+fn print_stop<O: Sink, E: Sink>(alloc: Global, out: &mut O, err: &mut E, stop: &Stop) -> Status
+    ensures { PrintsStop (outputs_at (O.outside out.old) (E.outside err.old)) (outputs_at (O.outside out.new) (E.outside err.new)) stop.now result }
 {
     match stop.text(alloc) {
-        Ok(text) => print_text(out, &text, stop.status()),
-        Err(_) => print_text(out, b"no memory\n", Status::NoMemory),
+        Ok(text) => print_text(out, err, &text, b"", stop.status()),
+        Err(_) => print_text(out, err, b"no memory\n", b"", Status::NoMemory),
     }
 }

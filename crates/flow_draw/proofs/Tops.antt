@@ -6,8 +6,10 @@ use Rattle.std.specs.declared.alloc.Global.{Global}
 use Rattle.std.specs.declared.option.Option.{Option}
 use Rattle.flow_text.specs.Edge.{Outside, Name}
 use Rattle.flow_plan.specs.Network.{Network}
+use Rattle.flow_plan.specs.declared.kind.KindSpec.{KindSpec}
 use Rattle.flow_drawing.specs.declared.drawing.Remarks.{Remarks}
 use Rattle.flow_load.specs.Step.{MayRead}
+use Rattle.flow_load.specs.declared.stop.TapesRefusal.TheVariants.{Byte, Count}
 use Rattle.flow_load.specs.declared.stop.Stop.{Stop}
 use Rattle.flow_load.specs.declared.stop.Stop.TheVariants.{Words, Refused, NoPart, JournalRefused, TapesRefused, ReadFault, WriteFault, TooLong, NoMemory}
 use Rattle.flow_load.proofs.Steps.{may-read, no-reads}
@@ -29,26 +31,27 @@ pub nothing-read : (o : Outside) → MayRead o o
 nothing-read o = may-read o o [] (no-reads o o refl)
 
 -- What was drawn was read.
-pub shown-read : (old new : Outside) (name : Name) (keeps : Option Name) (plan : Network) (remarks : Remarks) → ShowsBy old new name keeps plan remarks
+pub shown-read : (own : List KindSpec) (old new : Outside) (name : Name) (keeps : Option Name) (plan : Network) (remarks : Remarks) → ShowsBy own old new name keeps plan remarks
     → MayRead old new
-shown-read old new name None plan remarks shows = may-read old new _ shows.shelf
-shown-read old new name (Some kept) plan remarks shows = may-read old new _ shows.ready.reads
+shown-read own old new name None plan remarks shows = may-read old new _ shows.shelf
+shown-read own old new name (Some kept) plan remarks shows = may-read old new _ shows.ready.reads
 
 -- A stop is one of the words that ask for the drawing.
-pub caused : (words : List (String Global)) (old new : Outside) (asked : Asked) (stop : Stop) → asked_in_call words ≡ Some asked
-    → StopsFor old new asked.net asked.journal stop → HasCause words old new stop
-caused words old new asked (Refused refusal) asks s = (asked, asks, s)
-caused words old new asked (JournalRefused refusal) asks s = (asked, asks, s)
-caused words old new asked (ReadFault read) asks s = (asked, asks, s)
-caused words old new asked (TooLong read) asks s = (asked, asks, s)
-caused words old new asked NoMemory asks s = s
-caused words old new asked Words asks s = absurd s
-caused words old new asked (NoPart process) asks s = absurd s
-caused words old new asked (TapesRefused refusal) asks s = absurd s
-caused words old new asked (WriteFault written) asks s = (asked, asks, s)
+pub caused : (own : List KindSpec) (words : List (String Global)) (old new : Outside) (asked : Asked) (stop : Stop) → asked_in_call words ≡ Some asked
+    → StopsFor own old new asked.net asked.journal stop → HasCause own words old new stop
+caused own words old new asked (Refused refusal) asks s = (asked, asks, s)
+caused own words old new asked (JournalRefused refusal) asks s = (asked, asks, s)
+caused own words old new asked (ReadFault read) asks s = (asked, asks, s)
+caused own words old new asked (TooLong read) asks s = (asked, asks, s)
+caused own words old new asked NoMemory asks s = s
+caused own words old new asked Words asks s = absurd s
+caused own words old new asked (NoPart process) asks s = absurd s
+caused own words old new asked (TapesRefused (Count count)) asks s = (asked, asks, s)
+caused own words old new asked (TapesRefused (Byte place)) asks s = absurd s
+caused own words old new asked (WriteFault written) asks s = (asked, asks, s)
 
 -- The drawing that was made was printed, or a first part of it.
-pub ends-printed : (c : Call) (picture : List ℕ) (status : DrawStatus) → IsPicture c.words c.before c.after picture → Prints c.out c.out_after picture status
+pub ends-printed : (c : Call) (picture : List ℕ) (status : DrawStatus) → IsPicture c.own c.words c.before c.after picture → Prints c.out c.out_after picture status
     → Ends c status
 ends-printed c picture Drawn is prints = (picture, is, prints)
 ends-printed c picture Unwritten is prints = (picture, is, prints)

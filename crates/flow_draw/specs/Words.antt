@@ -13,16 +13,18 @@ use Rattle.flow_drawing.specs.declared.quote.Form.{Form}
 use Rattle.flow_drawing.specs.declared.quote.Form.TheVariants.{Mermaid, Dot}
 use Rattle.flow_draw.specs.declared.words.DrawCommand.{DrawCommand}
 
--- A drawing that is asked for: its language; the name of the network file; and that of a journal's file, where the state is to be drawn to which the journal
--- leads.
+-- A drawing that is asked for: its language; whether subnets are to be folded; the name of the network file; and that of a journal's file, where the state is to be
+-- drawn to which the journal leads.
 pub record Asked : Type 0 where
   pub form : Form
+  pub fold : Bool
   pub net : Text
   pub journal : Option Text
 
--- What may stand in a line, each at most once: the network file's name, the flag for DOT, and the option with the name of a journal's file.
+-- What may stand in a line, each at most once: the network file's name, the flag for DOT, the option with the name of a journal's file, and the flag for subnets that are
+-- folded.
 abbrev pub rules : List Rule
-rules = rule_by Name (codes "NETFILE") ∷ rule_by Flag (codes "dot") ∷ rule_by Valued (codes "journal") ∷ []
+rules = rule_by Name (codes "NETFILE") ∷ rule_by Flag (codes "dot") ∷ rule_by Valued (codes "journal") ∷ rule_by Flag (codes "fold") ∷ []
 
 -- The command line of the program. Its words begin after the program's name, and no flag asks for help.
 abbrev pub line_app : App
@@ -33,13 +35,13 @@ abbrev pub form_by : Bool → Form
 form_by dot = if dot then Dot else Mermaid
 
 -- A drawing of the network of this file.
-abbrev pub asked_with : Bool → Option Text → Text → Asked
-asked_with dot journal net = record { form = form_by dot; net = net; journal = journal }
+abbrev pub asked_with : Bool → Bool → Option Text → Text → Asked
+asked_with dot fold journal net = record { form = form_by dot; fold = fold; net = net; journal = journal }
 
 -- What the rows of a line ask for. They have to have a network file.
 abbrev pub asked_in : List Row → Option Asked
 asked_in rows = option_map
-    (asked_with (is_given (row_named (codes "dot") rows)) (value_by Valued (row_named (codes "journal") rows)))
+    (asked_with (is_given (row_named (codes "dot") rows)) (is_given (row_named (codes "fold") rows)) (value_by Valued (row_named (codes "journal") rows)))
     (value_by Name (row_named (codes "NETFILE") rows))
 
 -- Words in which clap finds a fault ask for nothing, and all others for what their rows do.
@@ -48,7 +50,7 @@ asked_of words = if is_empty (fault_of line_app words) then asked_in (matches_of
 
 -- What a command asks for, with the texts of its names.
 abbrev pub asked_by : DrawCommand → Asked
-asked_by command = record { form = command.form; net = command.net.now; journal = option_map (λ s. s.now) command.journal }
+asked_by command = record { form = command.form; fold = command.fold; net = command.net.now; journal = option_map (λ s. s.now) command.journal }
 
 -- What the words of a call ask for.
 abbrev pub asked_in_call : List (String Global) → Option Asked

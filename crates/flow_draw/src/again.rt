@@ -1,8 +1,6 @@
 //! The turns of a journal, made again, and what a drawing says of the state to which they lead.
-ghost use Rattle.std.specs.Prelude.{◌≤◌, [], length};
-ghost use Rattle.flow_offer.specs.Processes.{IsOfferedPlan};
-ghost use Rattle.flow_load.specs.Components.{HasComponents};
-ghost use Rattle.flow_draw.specs.Draws.{RemarksAfter};
+ghost use Rattle.std.specs.Prelude.{◌≤◌, length};
+ghost use Rattle.flow_draw.specs.Draws.{CanBegin, RemarksAfter};
 
 use crate::remarks::remarks_of;
 use flow_catalogue::Std;
@@ -24,8 +22,7 @@ pub fn remarks_after(
     components: Vec<Played<Std>>,
     journal: &Journal,
 ) -> Result<Remarks, Stop>
-    requires offered { IsOfferedPlan [] plan.now }
-    requires components { HasComponents [] plan.now components.items }
+    requires begins { CanBegin plan.now components.items }
     requires few { length journal.now.turns ≤ RUN_LIMIT }
     ensures { RemarksAfter plan.now components.items journal.now result }
 {

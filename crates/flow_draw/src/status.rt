@@ -34,7 +34,7 @@ impl DrawStatus {
             DrawStatus::Drawn => Ok(Vec::new(alloc)),
             DrawStatus::Unwritten => b"write fault: the output\n".to_vec(alloc),
             DrawStatus::Stopped(Stop::Words) => {
-                b"usage: draw [--dot] [--journal FILE] NETFILE\n".to_vec(alloc)
+                b"usage: draw [--dot] [--fold] [--journal FILE] NETFILE\n".to_vec(alloc)
             }
             DrawStatus::Stopped(stop) => stop.text(alloc),
         }

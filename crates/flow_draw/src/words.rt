@@ -18,6 +18,8 @@ use std::alloc::{AllocError, Global};
 pub struct DrawCommand<'a> {
     /// The language of the drawing.
     pub form: Form,
+    /// Whether each subnet is to be drawn as one box.
+    pub fold: bool,
     /// The file of the network.
     pub net: &'a str,
     /// The file of a journal, where the state is to be drawn to which it leads.
@@ -25,7 +27,7 @@ pub struct DrawCommand<'a> {
 }
 
 /// What the words after the program's name ask for, or `None` where they are no command line. A line names the network
-/// file, and may have a flag for DOT and name a journal's file, in any order.
+/// file, and may have a flag for DOT and one for folded subnets, and name a journal's file, in any order.
 pub fn command<'a>(
     alloc: Global,
     words: &'a [String],
@@ -52,6 +54,7 @@ fn line<'a>(alloc: Global) -> Result<clap::Command<'a>, AllocError>
     let line = line.arg(net_file(alloc))?;
     let line = line.arg(dot(alloc))?;
     let line = line.arg(journal(alloc))?;
+    let line = line.arg(fold(alloc))?;
     Ok(line)
 }
 
@@ -73,6 +76,16 @@ fn dot<'a>(alloc: Global) -> Arg<'a>
         .action(ArgAction::SetTrue)
 }
 
+// The flag for folded subnets.
+fn fold<'a>(alloc: Global) -> Arg<'a>
+    ensures rule { rule_of result ≡ rule_by Flag (codes "fold") }
+    ensures local { result.global ≡ false }
+{
+    Arg::new(alloc, "fold")
+        .long("fold")
+        .action(ArgAction::SetTrue)
+}
+
 // The option with the name of a journal's file.
 fn journal<'a>(alloc: Global) -> Arg<'a>
     ensures rule { rule_of result ≡ rule_by Valued (codes "journal") }
@@ -88,7 +101,8 @@ fn asked_by_matches<'a>(matches: &ArgMatches<'a>) -> Option<DrawCommand<'a>>
     match net_of(matches) {
         None => None,
         Some(net) => Some(DrawCommand {
-            form: form_by(is_dot(matches)),
+            form: form_by(has_flag(matches, "dot")),
+            fold: has_flag(matches, "fold"),
             net,
             journal: journal_of(matches),
         }),
@@ -115,11 +129,11 @@ fn form_by(dot: bool) -> Form
     if dot { Form::Dot } else { Form::Mermaid }
 }
 
-// Whether the words gave the flag for DOT, which clap otherwise sets by default.
-fn is_dot(matches: &ArgMatches<'_>) -> bool
-    ensures { result ≡ is_given (row_named (codes "dot") (rows_of (found_of matches.now))) }
+// Whether the words gave this flag, which clap otherwise sets by default.
+fn has_flag(matches: &ArgMatches<'_>, flag: &str) -> bool
+    ensures { result ≡ is_given (row_named flag.now (rows_of (found_of matches.now))) }
 {
-    match matches.value_source("dot") {
+    match matches.value_source(flag) {
         Some(ValueSource::CommandLine) => true,
         Some(ValueSource::DefaultValue) => false,
         None => false,

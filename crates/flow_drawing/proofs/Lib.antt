@@ -4,3 +4,5 @@ pub mod Opening
 pub mod PortNames
 pub mod Stands
 pub mod Options
+pub mod Letters
+pub mod Within

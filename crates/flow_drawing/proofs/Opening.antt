@@ -3,6 +3,7 @@ use Rattle.std.proofs.Common.{◌≡◌, ◌≢◌, ◌==◌, ℕ, ◌+◌, ◌<
 use mathlib.Core.Path.{ap₂}
 use Rattle.std.specs.List.{common_prefix_len}
 use Rattle.std.proofs.lemmas.List.{drop-drop, drop_more, drop_all, replicate-append-replicate}
+use Rattle.flow_plan.specs.declared.kind.KindSpec.{KindSpec}
 use Rattle.flow_plan.specs.declared.plan.Process.{Process}
 use Rattle.flow_drawing.specs.declared.drawing.Remark.{Remark}
 use Rattle.flow_drawing.specs.declared.drawing.Row.{Row}
@@ -73,21 +74,21 @@ closes-more start old new k so_far grown =
     grown ∙ ap (λ (l : List Row). l ++ Closes ∷ []) so_far ∙ append_assoc start (replicate k Closes) (Closes ∷ []) ∙ ap (λ (l : List Row). start ++ l) (replicate-append-replicate k 1 Closes)
 
 -- one process more
-pub rows-step : (remarks : List Remark) (processes : List Process) (opened boxes : List (List ℕ)) (p : ℕ) (process : Process) (old stepped new whole : List Row)
+pub rows-step : (kinds : List KindSpec) (remarks : List Remark) (processes : List Process) (opened boxes : List (List ℕ)) (p : ℕ) (process : Process) (old stepped new whole : List Row)
     → p < length processes → process ≡ get_or processes p process → boxes ≡ boxes_of process.name
-    → stepped ≡ old ++ steps opened boxes p → new ≡ stepped ++ Shows (node_of remarks p process) ∷ []
-    → old ++ rows_from remarks opened p (drop p processes) ≡ whole → new ++ rows_from remarks boxes (p + 1) (drop (p + 1) processes) ≡ whole
-rows-step remarks processes opened boxes p process old stepped new whole below is are steps_are shown so_far =
+    → stepped ≡ old ++ steps opened boxes p → new ≡ stepped ++ Shows (node_of kinds remarks p process) ∷ []
+    → old ++ rows_from kinds remarks opened p (drop p processes) ≡ whole → new ++ rows_from kinds remarks boxes (p + 1) (drop (p + 1) processes) ≡ whole
+rows-step kinds remarks processes opened boxes p process old stepped new whole below is are steps_are shown so_far =
     let front : drop p processes ≡ process ∷ drop (p + 1) processes = drop_more processes p process below ∙ ap (λ (x : Process). x ∷ drop (p + 1) processes) (sym is) in
-    let rest : List Row = rows_from remarks boxes (p + 1) (drop (p + 1) processes) in
-    let node : Row = Shows (node_of remarks p process) in
-    let whole_is : old ++ (steps opened (boxes_of process.name) p ++ node ∷ rows_from remarks (boxes_of process.name) (p + 1) (drop (p + 1) processes)) ≡ whole =
-    ap (λ (l : List Process). old ++ rows_from remarks opened p l) (sym front) ∙ so_far in
+    let rest : List Row = rows_from kinds remarks boxes (p + 1) (drop (p + 1) processes) in
+    let node : Row = Shows (node_of kinds remarks p process) in
+    let whole_is : old ++ (steps opened (boxes_of process.name) p ++ node ∷ rows_from kinds remarks (boxes_of process.name) (p + 1) (drop (p + 1) processes)) ≡ whole =
+    ap (λ (l : List Process). old ++ rows_from kinds remarks opened p l) (sym front) ∙ so_far in
     ap (λ (l : List Row). l ++ rest) shown ∙ append_assoc stepped (node ∷ []) rest ∙ ap (λ (l : List Row). l ++ node ∷ rest) steps_are ∙ append_assoc old (steps opened boxes p) (node ∷ rest)
-    ∙ ap (λ (b : List (List ℕ)). old ++ (steps opened b p ++ node ∷ rows_from remarks b (p + 1) (drop (p + 1) processes))) are ∙ whole_is
+    ∙ ap (λ (b : List (List ℕ)). old ++ (steps opened b p ++ node ∷ rows_from kinds remarks b (p + 1) (drop (p + 1) processes))) are ∙ whole_is
 
 -- no process is left
-pub rows-end : (remarks : List Remark) (processes : List Process) (opened : List (List ℕ)) (p : ℕ) (rows all whole : List Row)
-    → length processes ≤ p → rows ++ rows_from remarks opened p (drop p processes) ≡ whole → all ≡ rows ++ replicate (length opened) Closes → all ≡ whole
-rows-end remarks processes opened p rows all whole past so_far closed =
-    closed ∙ ap (λ (l : List Process). rows ++ rows_from remarks opened p l) (sym (drop_all p processes past)) ∙ so_far
+pub rows-end : (kinds : List KindSpec) (remarks : List Remark) (processes : List Process) (opened : List (List ℕ)) (p : ℕ) (rows all whole : List Row)
+    → length processes ≤ p → rows ++ rows_from kinds remarks opened p (drop p processes) ≡ whole → all ≡ rows ++ replicate (length opened) Closes → all ≡ whole
+rows-end kinds remarks processes opened p rows all whole past so_far closed =
+    closed ∙ ap (λ (l : List Process). rows ++ rows_from kinds remarks opened p l) (sym (drop_all p processes past)) ∙ so_far

@@ -5,6 +5,7 @@ use Rattle.std.specs.List.{common_prefix_len, enumerate_from}
 use Rattle.std.proofs.lemmas.Slice.Eq.{bytes_eq-Decides}
 use Rattle.std.proofs.lemmas.List.{take_all, take-take, take-append-drop}
 use Rattle.std.proofs.lemmas.List.Sums.{common_prefix_len-le}
+use Rattle.flow_plan.specs.declared.kind.KindSpec.{KindSpec}
 use Rattle.flow_plan.specs.declared.plan.Process.{Process}
 use Rattle.flow_drawing.specs.declared.drawing.Remark.{Remark}
 use Rattle.flow_drawing.specs.declared.drawing.Node.{Node}
@@ -66,11 +67,11 @@ none-shown : (n : ℕ) (boxes : List (List ℕ)) → standing boxes (replicate n
 none-shown zero boxes = refl
 none-shown (suc n) boxes = none-shown n (take (length boxes - 1) boxes)
 
-all-stand : (remarks : List Remark) (opened : List (List ℕ)) (p : ℕ) (processes : List Process) → standing opened (rows_from remarks opened p processes) ≡ map (in_its_boxes remarks) (enumerate_from p processes)
-all-stand remarks opened p [] = none-shown (length opened) opened
-all-stand remarks opened p (x ∷ xs) =
-    after-steps p opened (boxes_of x.name) (Shows (node_of remarks p x) ∷ rows_from remarks (boxes_of x.name) (p + 1) xs)
-    ∙ ap (λ (l : List (List (List ℕ) × Node)). (boxes_of x.name, node_of remarks p x) ∷ l) (all-stand remarks (boxes_of x.name) (p + 1) xs)
+all-stand : (kinds : List KindSpec) (remarks : List Remark) (opened : List (List ℕ)) (p : ℕ) (processes : List Process) → standing opened (rows_from kinds remarks opened p processes) ≡ map (in_its_boxes kinds remarks) (enumerate_from p processes)
+all-stand kinds remarks opened p [] = none-shown (length opened) opened
+all-stand kinds remarks opened p (x ∷ xs) =
+    after-steps p opened (boxes_of x.name) (Shows (node_of kinds remarks p x) ∷ rows_from kinds remarks (boxes_of x.name) (p + 1) xs)
+    ∙ ap (λ (l : List (List (List ℕ) × Node)). (boxes_of x.name, node_of kinds remarks p x) ∷ l) (all-stand kinds remarks (boxes_of x.name) (p + 1) xs)
 
 pub stand-in-boxes : StandInBoxes
-stand-in-boxes = λ remarks processes. all-stand remarks [] 0 processes
+stand-in-boxes = λ kinds remarks processes. all-stand kinds remarks [] 0 processes

@@ -1,5 +1,5 @@
 -- The drawing of a plan.
-use Rattle.std.specs.Prelude.{ℕ, zero, suc, ◌+◌, ◌-◌, ◌==◌, ◌||◌, Bool, true, false, not, if◌then◌else◌, List, [], ◌∷◌, ◌++◌, length, take, drop, replicate, Option, Some, None, slice_get, slice_index, unwrap_or}
+use Rattle.std.specs.Prelude.{ℕ, zero, suc, ◌+◌, ◌-◌, ◌==◌, ◌||◌, Bool, true, false, not, if◌then◌else◌, List, [], ◌∷◌, ◌++◌, length, take, drop, replicate, Option, Some, None, slice_get, slice_index, unwrap_or, codes}
 use Rattle.std.specs.List.{common_prefix_len, enumerate_from, flat_map}
 use Rattle.std.specs.Option.{option_map}
 use Rattle.std.specs.Str.{bytes_eq}
@@ -11,6 +11,7 @@ use Rattle.flow_plan.specs.declared.plan.Connection.{Connection}
 use Rattle.flow_plan.specs.Network.{Network}
 use Rattle.flow_drawing.specs.declared.drawing.Remark.{Remark}
 use Rattle.flow_drawing.specs.declared.drawing.Remarks.{Remarks}
+use Rattle.flow_drawing.specs.declared.drawing.Setting.{Setting}
 use Rattle.flow_drawing.specs.declared.drawing.Node.{Node}
 use Rattle.flow_drawing.specs.declared.drawing.Row.{Row}
 use Rattle.flow_drawing.specs.declared.drawing.Row.TheVariants.{Opens, Closes, Shows}
@@ -51,16 +52,6 @@ steps opened boxes p =
     replicate (length opened - common_prefix_len bytes_eq opened boxes) Closes
     ++ begun p (common_prefix_len bytes_eq opened boxes) (drop (common_prefix_len bytes_eq opened boxes) boxes)
 
--- Process p, by its name and kind.
-abbrev pub node_of : List Remark → ℕ → Process → Node
-node_of remarks p process = record { number = p; name = process.name; kind = process.kind; remark = remark_at remarks p }
-
--- The rows of these processes, the first of which has the number p, where these boxes are open: each process in its boxes. Behind the last one all boxes end.
-abbrev pub rows_from : List Remark → List (List ℕ) → ℕ → List Process → List Row
-rows_from remarks opened p [] = replicate (length opened) Closes
-rows_from remarks opened p (process ∷ processes) =
-    steps opened (boxes_of process.name) p ++ Shows (node_of remarks p process) ∷ rows_from remarks (boxes_of process.name) (p + 1) processes
-
 -- The name of the input port at this place of a kind.
 abbrev pub option_at : KindSpec → ℕ → List ℕ
 option_at kind place = unwrap_or (option_map (λ port. port.name) (slice_get kind.inputs place)) []
@@ -70,7 +61,30 @@ abbrev pub option_name : List KindSpec → List ℕ → ℕ → List ℕ
 option_name [] name place = []
 option_name (kind ∷ kinds) name place = if bytes_eq kind.name name then option_at kind place else option_name kinds name place
 
--- An option of process p, which is of this kind: its place among the options, and the place of its port and the text.
+-- A process of this kind writes what arrives to a file, which its option names.
+abbrev pub is_writer : List ℕ → Bool
+is_writer kind = bytes_eq kind (codes "WriteLines")
+
+-- An option of a process of this kind: the name of its port, and its text.
+abbrev pub setting_of : List KindSpec → List ℕ → ℕ × List ℕ → List Setting
+setting_of kinds kind option = record { port = option_name kinds kind option.0; text = option.1 } ∷ []
+
+-- What stands in the box of a process below its name: its options, but for the file of a writer.
+abbrev pub settings_of : List KindSpec → Process → List Setting
+settings_of kinds process = if is_writer process.kind then [] else flat_map (setting_of kinds process.kind) process.options
+
+-- Process p, by its name, its kind and its options.
+abbrev pub node_of : List KindSpec → List Remark → ℕ → Process → Node
+node_of kinds remarks p process =
+    record { number = p; name = process.name; kind = process.kind; options = settings_of kinds process; remark = remark_at remarks p }
+
+-- The rows of these processes, the first of which has the number p, where these boxes are open: each process in its boxes. Behind the last one all boxes end.
+abbrev pub rows_from : List KindSpec → List Remark → List (List ℕ) → ℕ → List Process → List Row
+rows_from kinds remarks opened p [] = replicate (length opened) Closes
+rows_from kinds remarks opened p (process ∷ processes) =
+    steps opened (boxes_of process.name) p ++ Shows (node_of kinds remarks p process) ∷ rows_from kinds remarks (boxes_of process.name) (p + 1) processes
+
+-- An option of process p, which is of this kind, as a text of its own: its place among the options, and the place of its port and the text.
 abbrev pub given_option : List KindSpec → ℕ → List ℕ → ℕ × (ℕ × List ℕ) → List Given
 given_option kinds p kind option = record { process = p; option = true; place = option.0; port = option_name kinds kind option.1.0; text = option.1.1 } ∷ []
 
@@ -78,11 +92,14 @@ given_option kinds p kind option = record { process = p; option = true; place = 
 abbrev pub given_initial : Network → ℕ → ℕ × (ℕ × List ℕ) → List Given
 given_initial plan p initial = record { process = p; option = false; place = initial.0; port = input_text plan p initial.1.0; text = initial.1.1 } ∷ []
 
--- The texts of a process with its number: its options, and then its initial texts.
+-- The file that a process with its number writes, where it is a writer.
+abbrev pub files_of : List KindSpec → ℕ × Process → List Given
+files_of kinds process =
+    if is_writer process.1.kind then flat_map (given_option kinds process.0 process.1.kind) (enumerate_from 0 process.1.options) else []
+
+-- The texts that stand beside a process with its number: the file that it writes, and then its initial texts.
 abbrev pub givens_of : List KindSpec → Network → ℕ × Process → List Given
-givens_of kinds plan process =
-    flat_map (given_option kinds process.0 process.1.kind) (enumerate_from 0 process.1.options)
-    ++ flat_map (given_initial plan process.0) (enumerate_from 0 process.1.initials)
+givens_of kinds plan process = files_of kinds process ++ flat_map (given_initial plan process.0) (enumerate_from 0 process.1.initials)
 
 -- The capacity, where it isn't the default.
 abbrev pub told_capacity : ℕ → Option ℕ
@@ -104,11 +121,11 @@ edge_of remarks plan c connection sender = record {
 abbrev pub edges_of : List Remark → Network → ℕ × Connection → List Edge
 edges_of remarks plan connection = flat_map (edge_of remarks plan connection.0 connection.1) connection.1.senders
 
--- The drawing of a plan over these kinds, with these remarks: its processes in their order, each in its boxes; the texts of each process; and an edge for each sender of
+-- The drawing of a plan over these kinds, with these remarks: its processes in their order, each in its boxes; the texts beside each process; and an edge for each sender of
 -- each connection.
 abbrev pub drawing_of : List KindSpec → Remarks → Network → Drawing
 drawing_of kinds remarks plan = record {
-  rows = rows_from remarks.processes [] 0 plan.processes;
+  rows = rows_from kinds remarks.processes [] 0 plan.processes;
   givens = flat_map (givens_of kinds plan) (enumerate_from 0 plan.processes);
   edges = flat_map (edges_of remarks.connections plan) (enumerate_from 0 plan.connections);
 }

@@ -2,5 +2,6 @@ pub mod Quotes
 pub mod Ports
 pub mod Remarks
 pub mod Drawings
+pub mod Folding
 pub mod Spelling
 pub mod Standing

@@ -28,29 +28,49 @@ hex_value b = if nat_lt b 58 then b - 48 else b - 87
 abbrev pub drives : ℕ → Bool
 drives c = is_between 0x80 0x9f c || c == 0x61c || is_between 0x200e 0x200f c || is_between 0x2028 0x202e c || is_between 0x2066 0x2069 c
 
--- Whether a byte stands for itself where a text is shown: a printable one of ASCII does, but for the backslash, and one beyond ASCII where its character may stand.
+-- Whether a byte may stand for itself where a text is shown: a printable one of ASCII may, and one beyond ASCII where its character may stand.
 abbrev pub stands : Bool → ℕ → Bool
-stands may b = if b == 92 then false else (if nat_lt b 128 then is_between 32 126 b else may)
+stands may b = if nat_lt b 128 then is_between 32 126 b else may
 
--- A byte as it is shown: as itself, or as \x and the two hexadecimal digits of its number.
-abbrev pub shown_byte : Bool → ℕ → List ℕ
-shown_byte may b = if stands may b then b ∷ [] else codes "\\x" ++ hex_digit (b / 16) ∷ hex_digit (b % 16) ∷ []
+-- A byte by its number: \x and the two hexadecimal digits of it.
+abbrev pub numbered : ℕ → List ℕ
+numbered b = codes "\\x" ++ hex_digit (b / 16) ∷ hex_digit (b % 16) ∷ []
 
--- A character as it is shown: by the bytes that spell it, which may stand where it drives nothing.
-abbrev pub shown_letter : ℕ → List ℕ
-shown_letter c = flat_map (shown_byte (not (drives c))) (encode_utf8 c)
+-- A byte as it is shown behind another one: as itself, or by its number. An x behind a backslash is shown by its number, so that the backslash is none that begins a number.
+abbrev pub shown_byte : Bool → ℕ → ℕ → List ℕ
+shown_byte may before b = if stands may b && not (before == 92 && b == 120) then b ∷ [] else numbered b
 
--- A text as it is shown, in characters alone that drive nothing: by its characters where it is UTF-8, and else by its bytes, of which none beyond ASCII stands.
+-- Bytes as they are shown, each behind the one before it.
+abbrev pub shown_bytes : Bool → ℕ → List ℕ → List ℕ
+shown_bytes may before [] = []
+shown_bytes may before (b ∷ bs) = shown_byte may before b ++ shown_bytes may b bs
+
+-- The byte behind which stands what follows these bytes: the last of them, or else the one before them.
+abbrev pub last_of : ℕ → List ℕ → ℕ
+last_of before [] = before
+last_of before (b ∷ bs) = last_of b bs
+
+-- Characters as they are shown, each behind the one before it: by the bytes that spell it, which may stand where it drives nothing.
+abbrev pub shown_letters : ℕ → List ℕ → List ℕ
+shown_letters before [] = []
+shown_letters before (c ∷ cs) = shown_bytes (not (drives c)) before (encode_utf8 c) ++ shown_letters (last_of before (encode_utf8 c)) cs
+
+-- A text as it is shown, in characters alone that drive nothing: by its characters where it is UTF-8, and else by its bytes, of which none beyond ASCII stands. Nothing
+-- stands before its first byte.
 abbrev pub shown : List ℕ → List ℕ
-shown text = if is_utf8 text then flat_map shown_letter (chars text) else flat_map (shown_byte false) text
+shown text = if is_utf8 text then shown_letters 0 (chars text) else shown_bytes false 0 text
 
--- What is shown is read back, where n bytes of a number are still to come, and c is the first of its digits.
+-- What is shown is read back. A backslash with an x behind it begins the number of a byte, and any other stands for itself. Here n tells what comes next: 0 that which stands for
+-- itself or is a backslash, 3 what stands behind a backslash, 2 the first digit of a number, and 1 the second one, where c is the first.
 abbrev pub seen_after : ℕ → ℕ → List ℕ → List ℕ
-seen_after n c [] = []
+seen_after zero c [] = []
+seen_after (suc zero) c [] = []
+seen_after (suc (suc zero)) c [] = []
+seen_after (suc (suc (suc n))) c [] = 92 ∷ []
 seen_after zero c (b ∷ bs) = if b == 92 then seen_after 3 0 bs else b ∷ seen_after 0 0 bs
 seen_after (suc zero) c (b ∷ bs) = (c * 16 + hex_value b) ∷ seen_after 0 0 bs
 seen_after (suc (suc zero)) c (b ∷ bs) = seen_after 1 (hex_value b) bs
-seen_after (suc (suc (suc n))) c (b ∷ bs) = seen_after 2 0 bs
+seen_after (suc (suc (suc n))) c (b ∷ bs) = if b == 120 then seen_after 2 0 bs else 92 ∷ (if b == 92 then seen_after 3 0 bs else b ∷ seen_after 0 0 bs)
 
 -- Whether a byte means itself in a label of Mermaid: an ASCII letter or a digit, a space, one of ' , - . / [ and ], or one beyond ASCII. All others may mean something to Mermaid,
 -- or to the HTML and the Markdown by which it sets labels.

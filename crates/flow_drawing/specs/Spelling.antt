@@ -6,9 +6,10 @@ use Rattle.flow_drawing.specs.declared.quote.Form.{Form}
 use Rattle.flow_drawing.specs.declared.quote.Form.TheVariants.{Mermaid, Dot}
 use Rattle.flow_drawing.specs.declared.drawing.Mark.{Mark}
 use Rattle.flow_drawing.specs.declared.drawing.Mark.TheVariants.{Plain, Blocked, Cycle}
+use Rattle.flow_drawing.specs.declared.drawing.Setting.{Setting}
 use Rattle.flow_drawing.specs.declared.drawing.Node.{Node}
 use Rattle.flow_drawing.specs.declared.drawing.Row.{Row}
-use Rattle.flow_drawing.specs.declared.drawing.Row.TheVariants.{Opens, Closes, Shows}
+use Rattle.flow_drawing.specs.declared.drawing.Row.TheVariants.{Opens, Closes, Folds, Shows}
 use Rattle.flow_drawing.specs.declared.drawing.Given.{Given}
 use Rattle.flow_drawing.specs.declared.drawing.Edge.{Edge}
 use Rattle.flow_drawing.specs.declared.drawing.Drawing.{Drawing}
@@ -22,7 +23,7 @@ process_id p = codes "p" ++ decimal p
 abbrev pub box_id : ℕ → ℕ → List ℕ
 box_id p depth = decimal p ++ codes "_" ++ decimal depth
 
--- An option is told apart from an initial text.
+-- A file that is written, which is an option, is told apart from an initial text.
 abbrev pub given_letter : Bool → List ℕ
 given_letter true = codes "o"
 given_letter false = codes "t"
@@ -40,9 +41,14 @@ line_break Dot = codes "\\n"
 abbrev pub note_text : Form → List ℕ → List ℕ
 note_text form note = if length note == 0 then [] else line_break form ++ quoted form note
 
--- The label of a process: its name and its kind, and the note on it.
+-- An option stands in a line of its own: the name of its port, and its text between '.
+abbrev pub setting_text : Form → Setting → List ℕ
+setting_text form setting = line_break form ++ quoted form setting.port ++ codes " '" ++ quoted form setting.text ++ codes "'"
+
+-- The label of a process: its name and its kind, its options, and the note on it.
 abbrev pub node_label : Form → Node → List ℕ
-node_label form node = quoted form node.name ++ codes ": " ++ quoted form node.kind ++ note_text form node.remark.note
+node_label form node =
+    quoted form node.name ++ codes ": " ++ quoted form node.kind ++ flat_map (setting_text form) node.options ++ note_text form node.remark.note
 
 -- A capacity, where it is told.
 abbrev pub capacity_text : Option ℕ → List ℕ
@@ -91,24 +97,40 @@ dot_style Cycle = codes "\", color=red, penwidth=3]\n"
 abbrev pub mermaid_row : Row → List ℕ
 mermaid_row (Opens p depth name) = codes "subgraph b" ++ box_id p depth ++ codes "[\"subnet " ++ quoted Mermaid name ++ codes "\"]\n"
 mermaid_row Closes = codes "end\n"
+mermaid_row (Folds p name mark) = process_id p ++ codes "[[\"subnet " ++ quoted Mermaid name ++ codes "\"]]\n" ++ mermaid_style mark p
 mermaid_row (Shows node) = process_id node.number ++ codes "[\"" ++ node_label Mermaid node ++ codes "\"]\n" ++ mermaid_style node.remark.mark node.number
 
 -- The line of a row in DOT.
 abbrev pub dot_row : Row → List ℕ
 dot_row (Opens p depth name) = codes "subgraph cluster_" ++ box_id p depth ++ codes " {\nlabel=\"subnet " ++ quoted Dot name ++ codes "\"\n"
 dot_row Closes = codes "}\n"
+dot_row (Folds p name mark) = process_id p ++ codes " [peripheries=2, label=\"subnet " ++ quoted Dot name ++ dot_style mark
 dot_row (Shows node) = process_id node.number ++ codes " [label=\"" ++ node_label Dot node ++ dot_style node.remark.mark
 
--- The line of a text in Mermaid: the text between ', and an arrow to its port.
+-- A text in Mermaid: between ', in a rounded box.
+abbrev pub mermaid_text : Given → List ℕ
+mermaid_text given = given_id given ++ codes "([\"'" ++ quoted Mermaid given.text ++ codes "'\"])"
+
+-- The arrow between a text and its process, with the port.
+abbrev pub mermaid_arrow : Given → List ℕ
+mermaid_arrow given = codes " -->|\"" ++ quoted Mermaid given.port ++ codes "\"| "
+
+-- The line of a text in Mermaid: an arrow from the text to its process, or from a process to the file that it writes.
 abbrev pub mermaid_given : Given → List ℕ
 mermaid_given given =
-    given_id given ++ codes "([\"'" ++ quoted Mermaid given.text ++ codes "'\"]) -->|\"" ++ quoted Mermaid given.port ++ codes "\"| " ++ process_id given.process ++ codes "\n"
+    if given.option then process_id given.process ++ mermaid_arrow given ++ mermaid_text given ++ codes "\n"
+    else mermaid_text given ++ mermaid_arrow given ++ process_id given.process ++ codes "\n"
+
+-- The same two ends in DOT.
+abbrev pub dot_ends : Given → List ℕ
+dot_ends given =
+    if given.option then process_id given.process ++ codes " -> " ++ given_id given else given_id given ++ codes " -> " ++ process_id given.process
 
 -- The lines of a text in DOT.
 abbrev pub dot_given : Given → List ℕ
 dot_given given =
     given_id given ++ codes " [shape=oval, label=\"'" ++ quoted Dot given.text ++ codes "'\"]\n"
-    ++ given_id given ++ codes " -> " ++ process_id given.process ++ codes " [label=\"" ++ quoted Dot given.port ++ codes "\"]\n"
+    ++ dot_ends given ++ codes " [label=\"" ++ quoted Dot given.port ++ codes "\"]\n"
 
 -- The line of a sender in Mermaid.
 abbrev pub mermaid_edge : Edge → List ℕ

@@ -1,10 +1,10 @@
 //! A drawing in DOT, the language of Graphviz.
 ghost use Rattle.std.specs.Prelude.{◌≡◌, ◌++◌, OnOk};
 ghost use Rattle.std.specs.List.{flat_map};
-ghost use Rattle.flow_drawing.specs.Spelling.{automatic_style, dot_edge, dot_given, dot_row, dot_style, edge_style};
-ghost use Rattle.flow_drawing.specs.declared.drawing.Row.TheVariants.{Opens};
+ghost use Rattle.flow_drawing.specs.Spelling.{automatic_style, dot_edge, dot_ends, dot_given, dot_row, dot_style, edge_style};
+ghost use Rattle.flow_drawing.specs.declared.drawing.Row.TheVariants.{Folds, Opens, Shows};
 
-use crate::drawing::{Edge, Given, Mark, Row};
+use crate::drawing::{Edge, Given, Mark, Node, Row};
 use crate::labels::{put_edge_label, put_given_id, put_node_label, put_numbers, put_process};
 use crate::quote::{Form, put_quoted};
 use flow_items::Text;
@@ -37,6 +37,25 @@ fn put_opening(
     Ok(())
 }
 
+// A subnet process as one box.
+fn put_folded(out: &mut Vec<u8>, process: usize, name: &Text, mark: Mark) -> Result<(), AllocError>
+    ensures { OnOk result (out.new.items ≡ out.old.items ++ dot_row (Folds process name.now mark)) }
+{
+    put_process(out, process as u64)?;
+    out.extend_from_slice(b" [peripheries=2, label=\"subnet ")?;
+    put_quoted(out, Form::Dot, name.as_slice())?;
+    out.extend_from_slice(style(mark))
+}
+
+fn put_node(out: &mut Vec<u8>, node: &Node) -> Result<(), AllocError>
+    ensures { OnOk result (out.new.items ≡ out.old.items ++ dot_row (Shows node.now)) }
+{
+    put_process(out, node.number as u64)?;
+    out.extend_from_slice(b" [label=\"")?;
+    put_node_label(out, Form::Dot, node)?;
+    out.extend_from_slice(style(node.remark.mark))
+}
+
 fn put_row(out: &mut Vec<u8>, row: &Row) -> Result<(), AllocError>
     ensures { OnOk result (out.new.items ≡ out.old.items ++ dot_row row.now) }
 {
@@ -47,12 +66,12 @@ fn put_row(out: &mut Vec<u8>, row: &Row) -> Result<(), AllocError>
             name,
         } => put_opening(out, *process, *depth, name),
         Row::Closes => out.extend_from_slice(b"}\n"),
-        Row::Shows(node) => {
-            put_process(out, node.number as u64)?;
-            out.extend_from_slice(b" [label=\"")?;
-            put_node_label(out, Form::Dot, node)?;
-            out.extend_from_slice(style(node.remark.mark))
-        }
+        Row::Folds {
+            process,
+            name,
+            mark,
+        } => put_folded(out, *process, name, *mark),
+        Row::Shows(node) => put_node(out, node),
     }
 }
 
@@ -66,6 +85,20 @@ pub fn put_rows(out: &mut Vec<u8>, rows: &[Row]) -> Result<(), AllocError>
     Ok(())
 }
 
+// From a text to its process, or from a process to the file that it writes.
+fn put_ends(out: &mut Vec<u8>, given: &Given) -> Result<(), AllocError>
+    ensures { OnOk result (out.new.items ≡ out.old.items ++ dot_ends given.now) }
+{
+    if given.option {
+        put_process(out, given.process as u64)?;
+        out.extend_from_slice(b" -> ")?;
+        return put_given_id(out, given);
+    }
+    put_given_id(out, given)?;
+    out.extend_from_slice(b" -> ")?;
+    put_process(out, given.process as u64)
+}
+
 fn put_given(out: &mut Vec<u8>, given: &Given) -> Result<(), AllocError>
     ensures { OnOk result (out.new.items ≡ out.old.items ++ dot_given given.now) }
 {
@@ -73,9 +106,7 @@ fn put_given(out: &mut Vec<u8>, given: &Given) -> Result<(), AllocError>
     out.extend_from_slice(b" [shape=oval, label=\"'")?;
     put_quoted(out, Form::Dot, given.text.as_slice())?;
     out.extend_from_slice(b"'\"]\n")?;
-    put_given_id(out, given)?;
-    out.extend_from_slice(b" -> ")?;
-    put_process(out, given.process as u64)?;
+    put_ends(out, given)?;
     out.extend_from_slice(b" [label=\"")?;
     put_quoted(out, Form::Dot, given.port.as_slice())?;
     out.extend_from_slice(b"\"]\n")

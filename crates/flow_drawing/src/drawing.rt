@@ -22,6 +22,18 @@ pub struct Remark {
     pub mark: Mark,
 }
 
+impl Remark {
+    /// A copy of this remark.
+    pub fn copy(&self, alloc: Global) -> Result<Self, AllocError>
+        ensures { IfOk result (λ remark. remark ≡ self.now) }
+    {
+        Ok(Remark {
+            note: self.note.copy(alloc)?,
+            mark: self.mark,
+        })
+    }
+}
+
 /// What a drawing says besides, by the numbers of processes and connections. Where there is nothing at a number, nothing is said.
 #[derive(Debug, Drop)]
 pub struct Remarks {
@@ -43,12 +55,20 @@ impl Remarks {
     }
 }
 
+/// An option that stands in the box of its process: the name of its port, and its text.
+#[derive(Debug, Drop)]
+pub struct Setting {
+    pub port: Text,
+    pub text: Text,
+}
+
 /// A process, by its number.
 #[derive(Debug, Drop)]
 pub struct Node {
     pub number: usize,
     pub name: Text,
     pub kind: Text,
+    pub options: Items<Setting>,
     pub remark: Remark,
 }
 
@@ -63,10 +83,17 @@ pub enum Row {
     },
     /// The innermost box ends.
     Closes,
+    /// A subnet process as one box, with nothing of what is inside. It has the number of the first process there.
+    Folds {
+        process: usize,
+        name: Text,
+        mark: Mark,
+    },
     Shows(Node),
 }
 
-/// A text that is given to a port of a process: an option or an initial text. Its place is that among the options or among the initial texts of the process.
+/// A text beside a process: the file that a writer's option names, behind it; or an initial text, before its port. Its place is that among the options or among the
+/// initial texts of the process.
 #[derive(Debug, Drop)]
 pub struct Given {
     pub process: usize,
@@ -102,10 +129,7 @@ pub fn remark_at(alloc: Global, remarks: &[Remark], number: usize) -> Result<Rem
     ensures { IfOk result (λ remark. remark ≡ remark_at remarks.now number) }
 {
     match remarks.get(number) {
-        Some(remark) => Ok(Remark {
-            note: remark.note.copy(alloc)?,
-            mark: remark.mark,
-        }),
+        Some(remark) => remark.copy(alloc),
         None => Ok(Remark {
             note: Text::new(alloc),
             mark: Mark::Plain,

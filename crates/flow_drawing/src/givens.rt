@@ -1,37 +1,15 @@
-//! The texts of a drawing, each at its port.
+//! The texts of a drawing that stand beside a process, each at its port.
 ghost use Rattle.std.specs.Prelude.{◌≡◌, ◌++◌, ◌∷◌, [], ◌<◌, ◌≤◌, ◌^◌, length, IfOk, OnOk};
 ghost use Rattle.flow_limits.specs.declared.TheConstants.{PROCESS_LIMIT};
 ghost use Rattle.std.specs.List.{enumerate_from, flat_map};
-ghost use Rattle.flow_drawing.specs.Drawings.{given_initial, given_option, givens_of, option_at, option_name};
+ghost use Rattle.flow_drawing.specs.Drawings.{files_of, given_initial, given_option, givens_of};
 
 use crate::drawing::Given;
 use crate::ports::input_text;
+use crate::settings::{is_writer, option_name};
 use flow_items::{Items, Text};
 use flow_plan::{KindSpec, Plan, Process};
 use std::alloc::{AllocError, Global};
-
-// The name of the input port at this place of a kind. One that isn't there has no bytes as its name; a plan over the table names none.
-fn option_at(kind: &KindSpec, place: u32) -> &[u8]
-    ensures { result.now ≡ option_at kind.now place }
-{
-    match kind.inputs.as_slice().get(place as usize) {
-        Some(port) => port.name.as_slice(),
-        None => b"",
-    }
-}
-
-// The same of the kind of this name.
-fn option_name<'a>(kinds: &'a [KindSpec], name: &[u8], place: u32) -> &'a [u8]
-    ensures { result.now ≡ option_name kinds.now name.now place }
-{
-    for kind in kinds {
-        let same = kind.name.as_slice() == name;
-        if same {
-            return option_at(kind, place);
-        }
-    }
-    b""
-}
 
 // The option at this place of a process.
 fn given_option(
@@ -74,7 +52,7 @@ fn given_initial(
     })
 }
 
-// Adds the options of a process of this kind.
+// Adds the options of a process of this kind as texts of their own.
 fn put_options(
     alloc: Global,
     givens: &mut Items<Given>,
@@ -112,7 +90,25 @@ fn put_initials(
     Ok(())
 }
 
-// Adds the texts of a process: its options, and then its initial texts.
+// Adds the file that a process of this kind writes, where it is a writer.
+fn put_files(
+    alloc: Global,
+    givens: &mut Items<Given>,
+    kinds: &[KindSpec],
+    number: usize,
+    process: &Process,
+) -> Result<(), AllocError>
+    ensures { OnOk result (givens.new ≡ givens.old ++ files_of kinds.now (number, process.now)) }
+{
+    let kind = process.kind.as_slice();
+    if !is_writer(kind) {
+        return Ok(());
+    }
+    let options = process.options.as_slice();
+    put_options(alloc, givens, kinds, number, kind, options)
+}
+
+// Adds the texts beside a process: the file that it writes, and then its initial texts.
 fn put_givens(
     alloc: Global,
     givens: &mut Items<Given>,
@@ -124,15 +120,7 @@ fn put_givens(
     requires { number < 2 ^ 32 }
     ensures { OnOk result (givens.new ≡ givens.old ++ givens_of kinds.now plan.now (number, process.now)) }
 {
-    let kind = process.kind.as_slice();
-    put_options(
-        alloc,
-        givens,
-        kinds,
-        number,
-        kind,
-        process.options.as_slice(),
-    )?;
+    put_files(alloc, givens, kinds, number, process)?;
     put_initials(alloc, givens, plan, number, process.initials.as_slice())
 }
 
@@ -154,7 +142,7 @@ fn givens_in(
     Ok(givens)
 }
 
-/// The texts of a plan over these kinds, by the processes in their order.
+/// The texts beside the processes of a plan over these kinds, by the processes in their order.
 pub fn all_givens(
     alloc: Global,
     kinds: &[KindSpec],

@@ -1,8 +1,9 @@
 //! What names and labels a spelled drawing has, in both languages.
 ghost use Rattle.std.specs.Prelude.{◌≡◌, ◌++◌, OnOk};
-ghost use Rattle.flow_drawing.specs.Spelling.{box_id, capacity_text, edge_label, given_id, given_letter, line_break, node_label, note_text, process_id};
+ghost use Rattle.std.specs.List.{flat_map};
+ghost use Rattle.flow_drawing.specs.Spelling.{box_id, capacity_text, edge_label, given_id, given_letter, line_break, node_label, note_text, process_id, setting_text};
 
-use crate::drawing::{Edge, Given, Node};
+use crate::drawing::{Edge, Given, Node, Setting};
 use crate::quote::{Form, put_quoted};
 use flow_text::put_decimal;
 use std::alloc::AllocError;
@@ -57,6 +58,25 @@ fn put_note(out: &mut Vec<u8>, form: Form, note: &[u8]) -> Result<(), AllocError
     put_quoted(out, form, note)
 }
 
+fn put_setting(out: &mut Vec<u8>, form: Form, setting: &Setting) -> Result<(), AllocError>
+    ensures { OnOk result (out.new.items ≡ out.old.items ++ setting_text form setting.now) }
+{
+    out.extend_from_slice(line_break(form))?;
+    put_quoted(out, form, setting.port.as_slice())?;
+    out.extend_from_slice(b" '")?;
+    put_quoted(out, form, setting.text.as_slice())?;
+    out.extend_from_slice(b"'")
+}
+
+fn put_settings(out: &mut Vec<u8>, form: Form, settings: &[Setting]) -> Result<(), AllocError>
+    ensures { OnOk result (out.new.items ≡ out.old.items ++ flat_map (setting_text form) settings.now) }
+{
+    for setting in settings {
+        put_setting(out, form, setting)?;
+    }
+    Ok(())
+}
+
 /// Appends the label of a process.
 pub fn put_node_label(out: &mut Vec<u8>, form: Form, node: &Node) -> Result<(), AllocError>
     ensures { OnOk result (out.new.items ≡ out.old.items ++ node_label form node.now) }
@@ -64,6 +84,7 @@ pub fn put_node_label(out: &mut Vec<u8>, form: Form, node: &Node) -> Result<(), 
     put_quoted(out, form, node.name.as_slice())?;
     out.extend_from_slice(b": ")?;
     put_quoted(out, form, node.kind.as_slice())?;
+    put_settings(out, form, node.options.as_slice())?;
     put_note(out, form, node.remark.note.as_slice())
 }
 

@@ -1,7 +1,8 @@
 //! Texts as a drawing has them.
-ghost use Rattle.std.specs.Prelude.{◌≡◌, ◌++◌, ◌<◌, chars, IfOk, OnOk};
+ghost use Rattle.std.specs.Prelude.{◌≡◌, ◌++◌, ◌<◌, chars, false, not, IfOk, OnOk};
+ghost use Rattle.std.specs.Char.{encode_utf8};
 ghost use Rattle.std.specs.List.{flat_map};
-ghost use Rattle.flow_drawing.specs.Quotes.{dot_byte, drives, entity, hex_digit, is_between, is_plain, mermaid_byte, quoted, quoted_byte, shown, shown_byte, shown_letter, stands, ReadsBack};
+ghost use Rattle.flow_drawing.specs.Quotes.{dot_byte, drives, entity, hex_digit, is_between, is_plain, last_of, mermaid_byte, numbered, quoted, quoted_byte, shown, shown_byte, shown_bytes, shown_letters, stands, ReadsBack};
 
 use std::alloc::{AllocError, Global};
 
@@ -47,67 +48,88 @@ fn drives(letter: char) -> bool
         || is_within(0x2066, 0x2069, code)
 }
 
-// Whether a byte stands for itself where a text is shown.
+// Whether a byte may stand for itself where a text is shown.
 fn stands(may: bool, byte: u8) -> bool
     ensures { result ≡ stands may byte }
 {
-    if byte == 92 {
-        false
-    } else if byte < 128 {
+    if byte < 128 {
         is_between(32, 126, byte)
     } else {
         may
     }
 }
 
-fn put_shown_byte(out: &mut Vec<u8>, may: bool, byte: u8) -> Result<(), AllocError>
-    ensures { OnOk result (out.new.items ≡ out.old.items ++ shown_byte may byte) }
+// Appends the number of a byte.
+fn put_numbered(out: &mut Vec<u8>, byte: u8) -> Result<(), AllocError>
+    ensures { OnOk result (out.new.items ≡ out.old.items ++ numbered byte) }
 {
-    if stands(may, byte) {
-        out.push(byte)?;
-        return Ok(());
-    }
     out.extend_from_slice(b"\\x")?;
     out.push(hex_digit(byte / 16))?;
     out.push(hex_digit(byte % 16))?;
     Ok(())
 }
 
-fn put_shown_bytes(out: &mut Vec<u8>, may: bool, bytes: &[u8]) -> Result<(), AllocError>
-    ensures { OnOk result (out.new.items ≡ out.old.items ++ flat_map (shown_byte may) bytes.now) }
+fn put_shown_byte(out: &mut Vec<u8>, may: bool, before: u8, byte: u8) -> Result<(), AllocError>
+    ensures { OnOk result (out.new.items ≡ out.old.items ++ shown_byte may before byte) }
 {
-    for byte in bytes {
-        put_shown_byte(out, may, *byte)?;
+    // An x behind a backslash would begin a number.
+    if stands(may, byte) && !(before == 92 && byte == 120) {
+        out.push(byte)?;
+        return Ok(());
     }
-    Ok(())
+    put_numbered(out, byte)
 }
 
-fn put_shown_letter(out: &mut Vec<u8>, letter: char) -> Result<(), AllocError>
-    ensures { OnOk result (out.new.items ≡ out.old.items ++ shown_letter letter) }
+// Appends bytes behind this one, and returns the last one.
+fn put_shown_bytes(out: &mut Vec<u8>, may: bool, before: u8, bytes: &[u8]) -> Result<u8, AllocError>
+    ensures bytes { OnOk result (out.new.items ≡ out.old.items ++ shown_bytes may before bytes.now) }
+    ensures last { IfOk result (λ last. last ≡ last_of before bytes.now) }
+{
+    let mut last = before;
+    for byte in bytes {
+        put_shown_byte(out, may, last, *byte)?;
+        last = *byte;
+    }
+    Ok(last)
+}
+
+// Appends a letter behind this byte, and returns its last byte.
+fn put_shown_letter(out: &mut Vec<u8>, before: u8, letter: char) -> Result<u8, AllocError>
+    ensures bytes { OnOk result (out.new.items ≡ out.old.items ++ shown_bytes (not (drives letter)) before (encode_utf8 letter)) }
+    ensures last { IfOk result (λ last. last ≡ last_of before (encode_utf8 letter)) }
 {
     let mut room = [0; 4];
     let spelled = letter.encode_utf8(&mut room);
-    put_shown_bytes(out, !drives(letter), spelled.as_bytes())
+    put_shown_bytes(out, !drives(letter), before, spelled.as_bytes())
 }
 
 fn put_shown_text(out: &mut Vec<u8>, text: &str) -> Result<(), AllocError>
-    ensures { OnOk result (out.new.items ≡ out.old.items ++ flat_map shown_letter (chars text.now)) }
+    ensures { OnOk result (out.new.items ≡ out.old.items ++ shown_letters 0 (chars text.now)) }
 {
+    let mut last = 0;
     for letter in text.chars() {
-        put_shown_letter(out, letter)?;
+        last = put_shown_letter(out, last, letter)?;
     }
     Ok(())
 }
 
-// A text with each backslash, each character that drives what shows it, and each byte that is none of a text by its
-// number.
+// A text that isn't UTF-8, by its bytes.
+fn put_shown_odd(out: &mut Vec<u8>, text: &[u8]) -> Result<(), AllocError>
+    ensures { OnOk result (out.new.items ≡ out.old.items ++ shown_bytes false 0 text.now) }
+{
+    put_shown_bytes(out, false, 0, text)?;
+    Ok(())
+}
+
+// A text with each character that drives what shows it, each byte that is none of a text, and each x behind a backslash
+// by its number.
 fn shown(alloc: Global, text: &[u8]) -> Result<Vec<u8>, AllocError>
     ensures { IfOk result (λ seen. seen.items ≡ shown text.now) }
 {
     let mut seen = Vec::new(alloc);
     match str::from_utf8(text) {
         Ok(text) => put_shown_text(&mut seen, text)?,
-        Err(_) => put_shown_bytes(&mut seen, false, text)?,
+        Err(_) => put_shown_odd(&mut seen, text)?,
     }
     Ok(seen)
 }

@@ -5,23 +5,27 @@ ghost use Rattle.flow_drawing.specs.Standing.{StandInBoxes};
 
 use crate::boxes::{boxes_of, put_closes, put_steps};
 use crate::drawing::{Node, Remark, Row, remark_at};
+use crate::settings::settings_of;
 use flow_items::{Items, Text};
-use flow_plan::Process;
+use flow_plan::{KindSpec, Process};
 use std::alloc::{AllocError, Global};
 
-fn node_of(
+/// A process with this number, as it is shown.
+pub fn node_of(
     alloc: Global,
+    kinds: &[KindSpec],
     remarks: &[Remark],
     number: usize,
     process: &Process,
 ) -> Result<Node, AllocError>
-    ensures { IfOk result (λ node. node ≡ node_of remarks.now number process.now) }
+    ensures { IfOk result (λ node. node ≡ node_of kinds.now remarks.now number process.now) }
 {
     let remark = remark_at(alloc, remarks, number)?;
     Ok(Node {
         number,
         name: process.name.copy(alloc)?,
         kind: process.kind.copy(alloc)?,
+        options: settings_of(alloc, kinds, process)?,
         remark,
     })
 }
@@ -29,10 +33,11 @@ fn node_of(
 /// The rows of these processes, in their order.
 pub fn rows_of(
     alloc: Global,
+    kinds: &[KindSpec],
     remarks: &[Remark],
     processes: &[Process],
 ) -> Result<Items<Row>, AllocError>
-    ensures { IfOk result (λ rows. rows ≡ rows_from remarks.now [] 0 processes.now) }
+    ensures { IfOk result (λ rows. rows ≡ rows_from kinds.now remarks.now [] 0 processes.now) }
 {
     let mut rows = Items::new(alloc);
     let mut opened: Vec<Text> = Vec::new(alloc);
@@ -46,7 +51,7 @@ pub fn rows_of(
             boxes.as_slice(),
             number,
         )?;
-        let node = node_of(alloc, remarks, number, process)?;
+        let node = node_of(alloc, kinds, remarks, number, process)?;
         rows.push(Row::Shows(node))?;
         opened = boxes;
     }

@@ -1,6 +1,6 @@
 //! Bytes of a network file that begin no token, and files that don't begin as one.
 use crate::kinds::{Side, automatic};
-use crate::pieces::{after_blanks, behind, first, is_point, word};
+use crate::pieces::{after_blanks, behind, first, word};
 use crate::shown::put_between;
 use flow_parse::FIRST_VERSION;
 use std::alloc::AllocError;
@@ -70,12 +70,12 @@ fn meant_star(rest: &[u8], version: u32) -> Option<&'static str> {
 }
 
 // What a byte that begins no token was meant for, by those who write it most often. Lines with it go on like this.
-fn meant(rest: &[u8], line: &[u8], version: u32) -> Option<&'static str> {
+fn meant(rest: &[u8], version: u32) -> Option<&'static str> {
     let byte = *rest.first()?;
     match byte {
         b'*' => meant_star(rest, version),
         b',' => Some(meant_comma(behind(rest, 1))),
-        b'.' | b'/' | b'\\' | b'~' => Some(meant_point(line)),
+        b'.' | b'/' | b'\\' | b'~' => Some(meant_point(rest)),
         0x80..=0xff => Some(meant_letter(rest)),
         _ => meant_sign(byte),
     }
@@ -111,9 +111,9 @@ fn meant_comma(after: &[u8]) -> &'static str {
 }
 
 // What a point was meant for, or a sign as it stands in the names of files.
-fn meant_point(line: &[u8]) -> &'static str {
-    if is_dotted(line) {
-        "A process and its port stand side by side, with a blank between them."
+fn meant_point(rest: &[u8]) -> &'static str {
+    if rest.starts_with(b".") && begins_in_capitals(behind(rest, 1)) {
+        "A process and its port stand side by side: A OUT before the arrow, and FILE A behind it."
     } else {
         "A text, as the name of a file, stands in quotes."
     }
@@ -154,17 +154,7 @@ fn first_bytes(bytes: &[u8]) -> &[u8] {
     }
 }
 
-// Whether the line has a process and its port in capitals with a point between them, as A.OUT or A.*OUT.
-fn is_dotted(line: &[u8]) -> bool {
-    let mut parts = line.split(is_point);
-    let _ = parts.next();
-    match parts.next() {
-        Some(part) => begins_in_capitals(part),
-        None => false,
-    }
-}
-
-// Whether the word, or automatic port, with which a text begins has a capital.
+// Whether the word, or automatic port, with which a text begins has a capital, as a port behind the point of A.OUT or A.*OUT.
 fn begins_in_capitals(text: &[u8]) -> bool {
     let port = if text.starts_with(b"*") {
         behind(text, 1)
@@ -189,7 +179,7 @@ pub fn put_bad_byte(
         first_bytes(rest),
         " begins no word, number or sign.\n",
     )?;
-    match meant(rest, line, version) {
+    match meant(rest, version) {
         Some(meant) => put_sentence(page, meant),
         None => Ok(()),
     }

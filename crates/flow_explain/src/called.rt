@@ -23,7 +23,7 @@ fn words_behind(alloc: Global, args: env::Args) -> Result<Vec<String>, AllocErro
     Ok(words)
 }
 
-/// Tells the shelf to which files the run that these words ask for keeps its journal and its tapes.
+/// Tells the shelf to which files the run that these words ask for keeps its journal, its tapes and its report.
 pub fn expect_kept<R: Files<File = File> + Drop>(
     alloc: Global,
     shelf: &mut FileShelf<R>,
@@ -37,6 +37,9 @@ pub fn expect_kept<R: Files<File = File> + Drop>(
     }
     if let Some(name) = asked.tapes {
         shelf.expect_tapes(String::from_str(alloc, name)?);
+    }
+    if let Some(name) = asked.report.file {
+        shelf.expect_report(String::from_str(alloc, name)?);
     }
     Ok(())
 }

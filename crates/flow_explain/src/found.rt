@@ -309,3 +309,33 @@ pub fn home_of<'a>(alloc: Global, net: &'a [u8], flat: &'a [u8]) -> Result<Home<
     }
     Ok(Home { part, process })
 }
+
+/// The processes of a part that are given a kind, each as often as it is.
+pub fn kinded<'a>(
+    alloc: Global,
+    net: &'a [u8],
+    part: Option<&[u8]>,
+) -> Result<Vec<&'a [u8]>, AllocError> {
+    let mut names = Vec::new(alloc);
+    let mut walk = Walk::new();
+    for line in net.split(is_line_end) {
+        let found = walk.next_line(alloc, line)?;
+        if is_same_part(found.part, part) {
+            push_kinded(&mut names, found.said.from)?;
+            push_kinded(&mut names, found.said.to)?;
+        }
+    }
+    Ok(names)
+}
+
+fn push_kinded<'a>(
+    names: &mut Vec<&'a [u8]>,
+    mention: Option<Mention<'a>>,
+) -> Result<(), AllocError> {
+    if let Some(mention) = mention {
+        if mention.kind.is_some() {
+            names.push(mention.process)?;
+        }
+    }
+    Ok(())
+}

@@ -1,8 +1,9 @@
 //! A line that is at fault by itself: what is wrong with it, and what would be right.
 use crate::bytes::{put_bad_byte, put_header};
 use crate::forms::{is_digits, put_forms, slip};
-use crate::found::{Found, Wanted, find, find_in, kind_given};
+use crate::found::{Found, Wanted, find, find_in, kind_given, kinded};
 use crate::kinds::is_port_name;
+use crate::near::nearest;
 use crate::net::{Net, put_found};
 use crate::own::OwnKinds;
 use crate::pieces::{Piece, bad_rest, pieces};
@@ -15,6 +16,9 @@ use flow_offer::table;
 use flow_parse::{FIRST_VERSION, NetFault, RESERVED, Reason, SECOND_VERSION, is_reserved};
 use flow_text::decimal;
 use std::alloc::{AllocError, Global};
+
+/// A shorter name isn't taken for another one that was spelled wrong.
+const SHORT: usize = 3;
 
 /// Explains the fault of a line.
 pub fn put_fault(
@@ -298,7 +302,7 @@ fn put_kind<'a>(net: Net<'a>, page: &mut String, found: &Found<'a>) -> Result<()
         return put_second_kind(page, mention.process, number);
     }
     if let Some(process) = any_kindless(net, found)? {
-        put_kindless(net, page, process)?;
+        put_kindless(net, page, found, process)?;
     }
     page.push_str(
         "One of a process's mentions at least gives its kind, in parentheses behind its name.\n",
@@ -313,14 +317,27 @@ fn put_second_kind(page: &mut String, process: &[u8], number: u64) -> Result<(),
     )
 }
 
-fn put_kindless(net: Net<'_>, page: &mut String, process: &[u8]) -> Result<(), AllocError> {
+fn put_kindless(
+    net: Net<'_>,
+    page: &mut String,
+    found: &Found<'_>,
+    process: &[u8],
+) -> Result<(), AllocError> {
     put_between(page, "The process ", process, " has no kind. ")?;
     if is_port_name(net.kinds, process) {
         return page.push_str(
             "That is the name of a port: before the arrow a port stands behind its process, behind the arrow before it. ",
         );
     }
-    Ok(())
+    // Between shorter names there is nothing near or far.
+    if process.len() < SHORT {
+        return Ok(());
+    }
+    let names = kinded(net.alloc, net.bytes, found.part)?;
+    match nearest(net.alloc, process, &names)? {
+        Some(near) => put_between(page, "The nearest that has one is ", near, ". "),
+        None => Ok(()),
+    }
 }
 
 fn put_subnet(net: Net<'_>, page: &mut String, found: &Found<'_>) -> Result<(), AllocError> {

@@ -4,11 +4,13 @@ use crate::net::put_found;
 use crate::pieces::{Piece, behind, is_line_end, pieces};
 use crate::said::{Mention, Tag};
 use crate::shown::put_behind;
+use crate::texts::given_by;
+use flow_limits::PROCESS_LIMIT;
 use flow_pattern::{is_too_large, slip_in};
 use std::alloc::{AllocError, Global};
 
-// The text that a line gives, as it is spelled between its quotes; none where it gives none.
-fn spelled<'a>(alloc: Global, found: &Found<'a>) -> Result<Option<&'a [u8]>, AllocError> {
+/// The text that a line gives, as it is spelled between its quotes; none where it gives none.
+pub fn spelled<'a>(alloc: Global, found: &Found<'a>) -> Result<Option<&'a [u8]>, AllocError> {
     let pieces = pieces(alloc, found.version, found.line)?;
     match pieces.first().copied() {
         Some(Piece::Quoted(spelled)) => Ok(Some(spelled)),
@@ -16,8 +18,8 @@ fn spelled<'a>(alloc: Global, found: &Found<'a>) -> Result<Option<&'a [u8]>, All
     }
 }
 
-// A text without the quotes that are doubled in its spelling.
-fn text_of(alloc: Global, spelled: &[u8]) -> Result<Vec<u8>, AllocError> {
+/// A text without the quotes that are doubled in its spelling.
+pub fn text_of(alloc: Global, spelled: &[u8]) -> Result<Vec<u8>, AllocError> {
     let mut text = Vec::new(alloc);
     let mut is_second = false;
     for byte in spelled {
@@ -68,29 +70,38 @@ fn is_for_pattern(mention: Option<Mention<'_>>) -> bool {
     }
 }
 
-// Whether a line gives a pattern that is too large to be compiled.
-fn gives_large(alloc: Global, found: &Found<'_>) -> Result<bool, AllocError> {
+// The text that a line gives for a pattern; none where it gives none.
+fn pattern_given(alloc: Global, found: &Found<'_>) -> Result<Option<Vec<u8>>, AllocError> {
     if found.said.tag != Tag::Initial || !is_for_pattern(found.said.to) {
-        return Ok(false);
+        return Ok(None);
     }
-    let Some(spelled) = spelled(alloc, found)? else {
-        return Ok(false);
-    };
-    let text = text_of(alloc, spelled)?;
-    is_too_large(alloc, &text)
+    given_by(alloc, found)
 }
 
-/// Shows the first line that gives a pattern which is too large to be compiled, where there is one.
+/// Shows the first line that gives a pattern which is too large to be compiled, where there is one. Of the lines that give
+/// a pattern no more are tried than a network has processes: others may stand in subnets that nobody uses.
 pub fn put_large(alloc: Global, page: &mut String, net: &[u8]) -> Result<(), AllocError> {
     let mut walk = Walk::new();
+    let mut left = PROCESS_LIMIT;
     for line in net.split(is_line_end) {
         let found = walk.next_line(alloc, line)?;
-        if gives_large(alloc, &found)? {
-            put_found(page, &found)?;
-            return page.push_str(
-                "PATTERN takes more than some 10 MiB when it is compiled, its repetitions written out.\n",
-            );
+        let Some(text) = pattern_given(alloc, &found)? else {
+            continue;
+        };
+        if left == 0 {
+            return Ok(());
+        }
+        left = left.saturating_sub(1);
+        if is_too_large(alloc, &text)? {
+            return put_large_line(page, &found);
         }
     }
     Ok(())
+}
+
+fn put_large_line(page: &mut String, found: &Found<'_>) -> Result<(), AllocError> {
+    put_found(page, found)?;
+    page.push_str(
+        "PATTERN takes more than some 10 MiB when it is compiled, its repetitions written out.\n",
+    )
 }

@@ -1,6 +1,6 @@
 //! The pieces of a line, for whoever looks for a fault in it. Any bytes have pieces.
 use crate::kinds::{Side, automatic};
-use flow_parse::SECOND_VERSION;
+use flow_parse::{FIRST_VERSION, SECOND_VERSION};
 use std::alloc::{AllocError, Global};
 
 /// A line that is none of the forms is looked at no further: the longest form has fewer pieces.
@@ -153,6 +153,11 @@ fn cut(version: u32, line: &[u8]) -> Option<(Piece<'_>, &[u8])> {
         return Some((Piece::Word(word), after));
     }
     Some(cut_sign(version, *byte, more))
+}
+
+/// The first piece of a line behind its blanks, and what is left of it.
+pub fn first_piece(line: &[u8]) -> Option<(Piece<'_>, &[u8])> {
+    cut(FIRST_VERSION, line)
 }
 
 /// The first pieces of a line in a file of this version, as many as a form can have and some more.

@@ -2,7 +2,7 @@
 //! the same way.
 use crate::found::{Found, Walk};
 use crate::own::OwnKinds;
-use crate::pieces::is_line_end;
+use crate::pieces::{Piece, first_piece, is_line_end};
 use crate::refusal::{Opened, open_network};
 use crate::said::Tag;
 use flow_flat::ExpandFault;
@@ -11,6 +11,9 @@ use std::alloc::{AllocError, Global};
 
 /// A longer file isn't tried again and again.
 const MOST_TRIED: usize = 262_144;
+
+/// A pattern of no more bytes is soon compiled, unless it says how often something is repeated.
+const QUICK: usize = 32;
 
 /// Which lines of a canonical spelling are counted, and left out from some place on.
 #[derive(Clone, Copy, PartialEq, Eq)]
@@ -68,18 +71,20 @@ fn among_processes(line: &[u8]) -> Line {
     }
 }
 
-// The spelling with so many of the counted lines.
+// The spelling with so many of the counted lines, of which so many don't bring the fault.
 fn beginning(
     alloc: Global,
     spelling: &[u8],
     counted: Counted,
+    fine: usize,
     most: usize,
 ) -> Result<Vec<u8>, AllocError> {
     let mut kept = Vec::new(alloc);
     let mut left = most;
+    let unknown = most.saturating_sub(fine);
     for line in spelling.split(is_line_end) {
         if stays(line_of(line, counted), &mut left) {
-            keep(&mut kept, line)?;
+            keep(&mut kept, line, left >= unknown)?;
         }
     }
     Ok(kept)
@@ -98,13 +103,35 @@ fn stays(line: Line, left: &mut usize) -> bool {
     }
 }
 
-fn keep(kept: &mut Vec<u8>, line: &[u8]) -> Result<(), AllocError> {
+// Keeps a line. Where it doesn't bring the fault, a pattern that takes long stands in it no more, so that each is compiled
+// but a few times in all: any other pattern does as well there.
+fn keep(kept: &mut Vec<u8>, line: &[u8], is_fine: bool) -> Result<(), AllocError> {
     if line.is_empty() {
         return Ok(());
     }
-    kept.extend_from_slice(line)?;
+    match behind_slow(line) {
+        Some(rest) if is_fine => {
+            kept.extend_from_slice(b"'x'")?;
+            kept.extend_from_slice(rest)?;
+        }
+        _ => kept.extend_from_slice(line)?,
+    }
     kept.push(b'\n')?;
     Ok(())
+}
+
+// What stands behind the text of a line that gives a pattern, where that may take long to be compiled.
+fn behind_slow(line: &[u8]) -> Option<&[u8]> {
+    match first_piece(line)? {
+        (Piece::Quoted(text), rest) if text.len() > QUICK || text.contains(&b'{') => {
+            if rest.starts_with(b" -> PATTERN ") {
+                Some(rest)
+            } else {
+                None
+            }
+        }
+        _ => None,
+    }
 }
 
 fn count(spelling: &[u8], counted: Counted) -> usize {
@@ -145,7 +172,7 @@ pub fn fewest(
             return Ok(refused);
         }
         let middle = fine.saturating_add(apart / 2);
-        let tried = beginning(alloc, spelling, counted, middle)?;
+        let tried = beginning(alloc, spelling, counted, fine, middle)?;
         if is_refused(alloc, &tried, own, fault) {
             refused = middle;
         } else {

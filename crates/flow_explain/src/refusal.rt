@@ -2,6 +2,7 @@
 ghost use Rattle.flow_offer.specs.Kinds.{AreOwnKinds};
 ghost use Rattle.flow_parse.specs.Values.{IsNetText};
 
+use crate::found::{Wanted, find};
 use crate::line::put_fault;
 use crate::own::{OwnKinds, put_no_part};
 use crate::patterns::put_large;
@@ -11,7 +12,7 @@ use flow_files::FileShelf;
 use flow_flat::ExpandFault;
 use flow_limits::FILE_LIMIT;
 use flow_offer::{own_kinds_make_a_table, table};
-use flow_parse::{NetFault, NetText, ParseStop, parse};
+use flow_parse::{NetFault, NetText, ParseStop, Reason, parse};
 use flow_plan::{KindSpec, Plan};
 use flow_text::{Shelf, read_all};
 use std::alloc::{AllocError, Global};
@@ -35,6 +36,36 @@ pub fn put_refusal<R: Files<File = File> + Eprint + Drop>(
     }
 }
 
+/// The forms that a line of the main part may have besides in a file of version 3.
+const THIRD_FORMS: &str =
+    "In the main part of a file of version 3 there are besides: inport WORD 'TEXT' -> FILE A, and use 'FILE'.\n";
+
+/// Explains why a network file of version 3 is refused whose filled text is this. It may name these kinds of the caller's own, of which there are so many parts.
+pub fn put_refusal_of(
+    alloc: Global,
+    page: &mut String,
+    net: &[u8],
+    own: &[KindSpec],
+    parts: &[usize],
+) -> Result<(), AllocError>
+    requires { AreOwnKinds own.now }
+{
+    put_opened(alloc, page, net, OwnKinds { kinds: own }, parts)?;
+    put_third(alloc, page, net)
+}
+
+// Tells of the forms of version 3 where a line of a filled text's main part has none.
+fn put_third(alloc: Global, page: &mut String, text: &[u8]) -> Result<(), AllocError> {
+    let fault = match parse(alloc, text) {
+        Err(ParseStop::Fault(fault)) if fault.reason == Reason::Form => fault,
+        _ => return Ok(()),
+    };
+    match find(alloc, text, &Wanted::Number(fault.line))? {
+        Some(found) if found.part.is_none() => page.push_str(THIRD_FORMS),
+        _ => Ok(()),
+    }
+}
+
 /// Explains why memory was wanting for the network file of this name, where a pattern in it is too large.
 pub fn put_too_large<R: Files<File = File> + Eprint + Drop>(
     alloc: Global,
@@ -48,8 +79,8 @@ pub fn put_too_large<R: Files<File = File> + Eprint + Drop>(
     }
 }
 
-// The bytes of the file of this name, where it is a regular one that can be read.
-fn bytes_of<R: Files<File = File> + Eprint + Drop>(
+/// The bytes of the file of this name, where it is a regular one that can be read.
+pub fn bytes_of<R: Files<File = File> + Eprint + Drop>(
     alloc: Global,
     rt: &R,
     name: &str,

@@ -1,5 +1,5 @@
 //! A drawing to its last byte, in both languages.
-use flow_drawing::{Drawing, Edge, Form, Given, Mark, Node, Remark, Row};
+use flow_drawing::{Drawing, Edge, Form, Given, Mark, Node, Remark, Row, Setting};
 use flow_items::{Items, Text};
 use std::alloc::Global;
 use std::process::Abort;
@@ -22,7 +22,18 @@ fn remark(rt: &impl Abort, alloc: Global, note: &[u8], mark: Mark) -> Remark {
     }
 }
 
-// A box, and in it a process of the kind K.
+// An option in the box of its process.
+fn options(rt: &impl Abort, alloc: Global) -> Items<Setting> {
+    let mut options = Items::new(alloc);
+    let setting = Setting {
+        port: text(rt, alloc, b"P"),
+        text: text(rt, alloc, b"\\d"),
+    };
+    put(rt, &mut options, setting);
+    options
+}
+
+// A box, and in it a process of the kind K; and another one, which is folded.
 fn rows(rt: &impl Abort, alloc: Global) -> Items<Row> {
     let mut rows = Items::new(alloc);
     let opens = Row::Opens {
@@ -35,23 +46,37 @@ fn rows(rt: &impl Abort, alloc: Global) -> Items<Row> {
         number: 0,
         name: text(rt, alloc, b"B.x"),
         kind: text(rt, alloc, b"K"),
+        options: options(rt, alloc),
         remark: remark(rt, alloc, b"idle", Mark::Blocked),
     };
     put(rt, &mut rows, Row::Shows(node));
     put(rt, &mut rows, Row::Closes);
+    let folds = Row::Folds {
+        process: 1,
+        name: text(rt, alloc, b"C"),
+        mark: Mark::Cycle,
+    };
+    put(rt, &mut rows, folds);
     rows
+}
+
+// A text of process 0: a file that it writes, or an initial text.
+fn given(rt: &impl Abort, alloc: Global, option: bool, port: &[u8], bytes: &[u8]) -> Given {
+    Given {
+        process: 0,
+        option,
+        place: 0,
+        port: text(rt, alloc, port),
+        text: text(rt, alloc, bytes),
+    }
 }
 
 fn givens(rt: &impl Abort, alloc: Global) -> Items<Given> {
     let mut givens = Items::new(alloc);
-    let given = Given {
-        process: 0,
-        option: true,
-        place: 0,
-        port: text(rt, alloc, b"O"),
-        text: text(rt, alloc, b"\"7\""),
-    };
-    put(rt, &mut givens, given);
+    let file = given(rt, alloc, true, b"O", b"\"7\"");
+    put(rt, &mut givens, file);
+    let initial = given(rt, alloc, false, b"I", b"8");
+    put(rt, &mut givens, initial);
     givens
 }
 
@@ -72,10 +97,10 @@ fn edges(rt: &impl Abort, alloc: Global) -> Items<Edge> {
 }
 
 const MERMAID: &[u8] =
-    b"graph LR\nsubgraph b0_0[\"subnet B\"]\np0[\"B.x: K<br>idle\"]\nstyle p0 stroke-dasharray:4\nend\no0_0([\"'#34;7#34;'\"]) -->|\"O\"| p0\np0 -.->|\"#42;OUT, IN[1], capacity 3\"| p0\n";
+    b"graph LR\nsubgraph b0_0[\"subnet B\"]\np0[\"B.x: K<br>P '#92;d'<br>idle\"]\nstyle p0 stroke-dasharray:4\nend\np1[[\"subnet C\"]]\nstyle p1 stroke:red,stroke-width:3px\np0 -->|\"O\"| o0_0([\"'#34;7#34;'\"])\nt0_0([\"'8'\"]) -->|\"I\"| p0\np0 -.->|\"#42;OUT, IN[1], capacity 3\"| p0\n";
 
 const DOT: &[u8] =
-    b"digraph {\nrankdir=LR\nnode [shape=box]\nsubgraph cluster_0_0 {\nlabel=\"subnet B\"\np0 [label=\"B.x: K\\nidle\", style=dashed]\n}\no0_0 [shape=oval, label=\"'\\\"7\\\"'\"]\no0_0 -> p0 [label=\"O\"]\np0 -> p0 [label=\"*OUT, IN[1], capacity 3\", style=dotted]\n}\n";
+    b"digraph {\nrankdir=LR\nnode [shape=box]\nsubgraph cluster_0_0 {\nlabel=\"subnet B\"\np0 [label=\"B.x: K\\nP '\\\\d'\\nidle\", style=dashed]\n}\np1 [peripheries=2, label=\"subnet C\", color=red, penwidth=3]\no0_0 [shape=oval, label=\"'\\\"7\\\"'\"]\np0 -> o0_0 [label=\"O\"]\nt0_0 [shape=oval, label=\"'8'\"]\nt0_0 -> p0 [label=\"I\"]\np0 -> p0 [label=\"*OUT, IN[1], capacity 3\", style=dotted]\n}\n";
 
 fn check_print(
     rt: &impl Abort,

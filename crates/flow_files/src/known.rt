@@ -27,6 +27,7 @@ enum Part {
 pub enum Kept {
     Journal,
     Tapes,
+    Report,
 }
 
 /// The files of a call so far.
@@ -36,6 +37,8 @@ pub struct Known {
     journal: Option<String>,
     /// The name of the tape file.
     tapes: Option<String>,
+    /// The name of the report's file.
+    report: Option<String>,
     /// Those that were opened to be read, that of the network first.
     read: Vec<Option<Identity>>,
     written: Vec<Option<Identity>>,
@@ -46,6 +49,7 @@ impl Known {
         Known {
             journal: None,
             tapes: None,
+            report: None,
             read: Vec::new(alloc),
             written: Vec::new(alloc),
         }
@@ -55,6 +59,7 @@ impl Known {
         match kept {
             Kept::Journal => self.journal = Some(name),
             Kept::Tapes => self.tapes = Some(name),
+            Kept::Report => self.report = Some(name),
         }
     }
 
@@ -75,7 +80,8 @@ impl Known {
             return Ok(());
         }
         self.admit_named(rt, Kept::Journal, &self.journal)?;
-        self.admit_named(rt, Kept::Tapes, &self.tapes)
+        self.admit_named(rt, Kept::Tapes, &self.tapes)?;
+        self.admit_named(rt, Kept::Report, &self.report)
     }
 
     /// The fault comes at the first file that is to be written, and the report names that one: so the standard error
@@ -104,8 +110,12 @@ impl Known {
             (Some(Part::Network), Kept::Tapes) => {
                 Err(refused("the tape file is the network file"))
             }
+            (Some(Part::Network), Kept::Report) => {
+                Err(refused("the report's file is the network file"))
+            }
             (Some(Part::Input), Kept::Journal) => Err(refused("the journal's file is an input")),
             (Some(Part::Input), Kept::Tapes) => Err(refused("the tape file is an input")),
+            (Some(Part::Input), Kept::Report) => Err(refused("the report's file is an input")),
             _ => Ok(()),
         }
     }
@@ -134,6 +144,9 @@ impl Known {
         }
         if is_named(&self.tapes, name) {
             return Some(Kept::Tapes);
+        }
+        if is_named(&self.report, name) {
+            return Some(Kept::Report);
         }
         None
     }

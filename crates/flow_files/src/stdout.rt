@@ -3,8 +3,12 @@ ghost use Rattle.std.specs.Prelude.{◌≡◌, []};
 
 use crate::again::print_again;
 use flow_text::{Edge, Fault, History, Sink};
+use std::alloc::Global;
 use std::io;
 use std::marker::Model;
+
+/// So many bytes are kept of what is given.
+const KEPT_LIMIT: usize = 1 << 20;
 
 /// The standard output.
 #[derive(Drop)]
@@ -13,6 +17,8 @@ pub struct StdSink<R: Print + Drop> {
     write_faults: u64,
     given: History,
     reason: Option<io::Error>,
+    /// The first bytes that it was given, where they are to be kept.
+    kept: Option<Vec<u8>>,
 }
 
 impl<R: Print + Drop> Model for StdSink<R> {
@@ -33,6 +39,39 @@ impl<R: Print + Drop> StdSink<R> {
             write_faults: 0,
             given: History::none(),
             reason: None,
+            kept: None,
+        }
+    }
+
+    /// Keeps for `kept` what is given from now on, but no more than 1 MiB of it.
+    pub fn keep(&mut self, alloc: Global)
+        ensures { self.new ≡ self.old }
+    {
+        self.kept = Some(Vec::new(alloc));
+    }
+
+    /// What was kept: nothing, where there was no memory for it.
+    pub fn kept(&self) -> &[u8] {
+        match &self.kept {
+            Some(kept) => kept.as_slice(),
+            None => b"",
+        }
+    }
+
+    // Keeps these bytes, where they are to be kept and there is memory for them.
+    fn remember(&mut self, bytes: &[u8])
+        ensures { self.new ≡ self.old }
+    {
+        let is_kept = match &mut self.kept {
+            Some(kept) => {
+                let left = KEPT_LIMIT.saturating_sub(kept.len());
+                kept.extend_from_slice(&bytes[..left.min(bytes.len())])
+                    .is_ok()
+            }
+            None => true,
+        };
+        if !is_kept {
+            self.kept = None;
         }
     }
 
@@ -56,6 +95,7 @@ impl<R: Print + Drop> Sink for StdSink<R> {
         match print_again(&self.rt, bytes) {
             Ok(n) => {
                 self.given = self.given.and(&bytes[..n]);
+                self.remember(&bytes[..n]);
                 Ok(n)
             }
             Err(error) => {

@@ -1,4 +1,4 @@
--- The page of the standard kinds. (This project's own.)
+-- The page of the kinds. (This project's own.)
 use Rattle.std.specs.Prelude.{◌≡◌, ℕ, Bool, true, false, List, [], ◌∷◌, ◌++◌, codes}
 use Rattle.std.specs.Fmt.{decimal}
 use Rattle.std.specs.List.{flat_map}
@@ -9,7 +9,7 @@ use Rattle.flow_plan.specs.declared.kind.PortSpec.{PortSpec}
 use Rattle.flow_plan.specs.declared.kind.KindSpec.{KindSpec}
 use Rattle.flow_catalogue.specs.declared.table.StdKind.{StdKind}
 use Rattle.flow_catalogue.specs.Kinds.{spec_of, all_kinds}
-use Rattle.flow_kinds.specs.Purposes.{purpose_of}
+use Rattle.flow_kinds.specs.Purposes.{own_purpose, purpose_of}
 use Rattle.flow_kinds.specs.declared.port.Side.{Side}
 use Rattle.flow_kinds.specs.declared.port.Side.TheVariants.{Input, Output}
 
@@ -43,9 +43,13 @@ open_text class false = codes "; may be left out"
 abbrev pub port_line : Side → PortSpec → List ℕ
 port_line side port = codes "  " ++ role side port.class ++ 32 ∷ port.name ++ elements_text port.array ++ range_text port.class ++ open_text port.class port.needed ++ 10 ∷ []
 
--- The lines of a kind with these ports: its name and what it does, then each of its inputs, and then each of its outputs.
+-- The lines of a kind with this name and these ports, of which this is said: its name and that, then each of its inputs, and then each of its outputs.
+abbrev pub described : List ℕ → KindSpec → List ℕ
+described words spec = spec.name ++ codes ": " ++ words ++ 10 ∷ flat_map (port_line Input) spec.inputs ++ flat_map (port_line Output) spec.outputs
+
+-- The lines of a standard kind with these ports: of it is said what it does.
 abbrev pub kind_lines : StdKind → KindSpec → List ℕ
-kind_lines kind spec = spec.name ++ codes ": " ++ purpose_of kind ++ 10 ∷ flat_map (port_line Input) spec.inputs ++ flat_map (port_line Output) spec.outputs
+kind_lines kind spec = described (purpose_of kind) spec
 
 -- The lines of a kind with the ports that it has in the table.
 abbrev pub lines_of : StdKind → List ℕ
@@ -54,6 +58,10 @@ lines_of kind = kind_lines kind (spec_of kind)
 -- The page: the lines of each kind of the table, once and in its order.
 unfoldable pub kinds_page : List ℕ
 kinds_page = flat_map lines_of all_kinds
+
+-- The lines of a kind of the caller's own: of it is said that it is one.
+abbrev pub own_lines : KindSpec → List ℕ
+own_lines spec = described own_purpose spec
 
 -- It is a row of the table.
 abbrev pub IsRow : KindSpec → Type 0

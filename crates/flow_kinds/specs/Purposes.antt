@@ -29,3 +29,7 @@ purpose_of Tail = codes "passes on the last COUNT packets between two brackets"
 purpose_of Match = codes "accepts what PATTERN matches somewhere, and rejects the rest"
 purpose_of Replace = codes "replaces each match of PATTERN by the text WITH"
 purpose_of Sort = codes "sorts the packets between two brackets by text, or by the bytes of FIELDS"
+
+-- What is told of a kind of the caller's own in the place of what it does, which its program alone knows.
+unfoldable pub own_purpose : List ℕ
+own_purpose = codes "a kind of this program's own"

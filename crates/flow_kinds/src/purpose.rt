@@ -1,6 +1,6 @@
-//! What the standard kinds do.
+//! What the standard kinds do, and what is told of the others.
 ghost use Rattle.std.specs.Prelude.{◌≡◌};
-ghost use Rattle.flow_kinds.specs.Purposes.{purpose_of};
+ghost use Rattle.flow_kinds.specs.Purposes.{own_purpose, purpose_of};
 
 use flow_catalogue::StdKind;
 
@@ -38,4 +38,12 @@ pub fn purpose(kind: StdKind) -> &'static [u8]
         StdKind::Sort =>
             b"sorts the packets between two brackets by text, or by the bytes of FIELDS",
     }
+}
+
+/// What is told of a kind of the caller's own.
+#[tactic(auto, unfolding(crate::specs::Purposes::own_purpose))]
+pub fn own_purpose() -> &'static [u8]
+    ensures { result.now ≡ own_purpose }
+{
+    b"a kind of this program's own"
 }

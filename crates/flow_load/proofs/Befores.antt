@@ -239,75 +239,8 @@ module _ (kinds : List KindSpec) (old mid new : Outside) (name kept net bytes : 
   nothing-left words own recorded may empty =
       inl (untouched (so_far words own old new recorded) (MayRead-trans old mid new (may-read old mid (map whole ((name, net) ∷ (kept, bytes) ∷ [])) only) may) empty)
 
-  named-stopped : (named : Name) (stop : Stop) → ReadsTapes mid new (Some named) (Err stop) → (words : List (String Global)) (own : List Offer) (recorded : Recorded) → specs_of own ≡ kinds
-      → Asks words (Replay name kept (Some named)) → IsNothing recorded → HasCause (so_far words own old new recorded) stop
-  named-stopped named (TapesRefused (tapes_refusals.Byte place)) r words own recorded offered asks empty = record {
-    name = name;
-    kept = kept;
-    named = named;
-    asks = asks;
-    net = net;
-    text = text;
-    plan = plan;
-    file = its-file own offered;
-    bytes = bytes;
-    tells = journal;
-    is_journal = is_journal;
-    tape_bytes = r.0;
-    read = subst (λ (t : Option Files). IsRead t TAPE_FILE_LIMIT (named, r.0)) told-before r.2;
-    fault = r.3;
-    shelf = behind-journal ((named, r.0) ∷ []) r.1;
-    nothing = empty;
-  }
-  named-stopped named (TapesRefused (tapes_refusals.Count count)) r words own recorded offered asks empty = absurd r
-  named-stopped named (ReadFault read) r words own recorded offered asks empty = record {
-    name = name;
-    command = on-file words (Replay name kept (Some named)) name refl asks;
-    earlier = (name, net) ∷ (kept, bytes) ∷ [];
-    next = inl (TAPE_FILE_LIMIT, inr (inl (refl, next-tapes words own offered named (string_bytes read) r.0 asks)));
-    opened = r.1.0;
-    unended = subst (λ (n : Name). Unended n r.1.0) (sym r.0) r.1.1;
-    shelf = subst (λ (n : Name). FailsToRead old new (map whole ((name, net) ∷ (kept, bytes) ∷ []) ++ r.1.0) n) (sym r.0)
-        (FailsToRead-after old mid new (map whole ((name, net) ∷ (kept, bytes) ∷ [])) r.1.0 named only r.1.2);
-    nothing = empty;
-  }
-  named-stopped named (TooLong read) r words own recorded offered asks empty = record {
-    name = name;
-    command = on-file words (Replay name kept (Some named)) name refl asks;
-    earlier = (name, net) ∷ (kept, bytes) ∷ [];
-    limit = TAPE_FILE_LIMIT;
-    next = inr (inl (refl, next-tapes words own offered named (string_bytes read) r.0 asks));
-    more = subst (λ (n : Name). HoldsMore old.files TAPE_FILE_LIMIT n) (sym r.0) (subst (λ (t : Option Files). HoldsMore t TAPE_FILE_LIMIT named) told-before r.2);
-    shelf = subst (λ (n : Name). GivesMore old new (map whole ((name, net) ∷ (kept, bytes) ∷ [])) TAPE_FILE_LIMIT n) (sym r.0)
-        (GivesMore-after old mid new (map whole ((name, net) ∷ (kept, bytes) ∷ [])) [] TAPE_FILE_LIMIT named only r.1);
-    nothing = empty;
-  }
-  named-stopped named NoMemory may words own recorded offered asks empty = nothing-left words own recorded may empty
-  named-stopped named Words r words own recorded offered asks empty = absurd r
-  named-stopped named (Refused refusal) r words own recorded offered asks empty = absurd r
-  named-stopped named (NoPart process) r words own recorded offered asks empty = absurd r
-  named-stopped named (JournalRefused refusal) r words own recorded offered asks empty = absurd r
-  named-stopped named (WriteFault written) r words own recorded offered asks empty = absurd r
-
-  unnamed-stopped : (stop : Stop) → ReadsTapes mid new None (Err stop) → (words : List (String Global)) (own : List Offer) (recorded : Recorded) → IsNothing recorded
-      → HasCause (so_far words own old new recorded) stop
-  unnamed-stopped NoMemory may words own recorded empty = nothing-left words own recorded may empty
-  unnamed-stopped (TapesRefused refusal) r words own recorded empty = absurd r
-  unnamed-stopped (ReadFault read) r words own recorded empty = absurd r
-  unnamed-stopped (TooLong read) r words own recorded empty = absurd r
-  unnamed-stopped Words r words own recorded empty = absurd r
-  unnamed-stopped (Refused refusal) r words own recorded empty = absurd r
-  unnamed-stopped (NoPart process) r words own recorded empty = absurd r
-  unnamed-stopped (JournalRefused refusal) r words own recorded empty = absurd r
-  unnamed-stopped (WriteFault written) r words own recorded empty = absurd r
-
-  pub tapes-stopped : (tapes : Option Name) (stop : Stop) → ReadsTapes mid new tapes (Err stop) → (words : List (String Global)) (own : List Offer) (recorded : Recorded) → specs_of own ≡ kinds
-      → Asks words (Replay name kept tapes) → IsNothing recorded → HasCause (so_far words own old new recorded) stop
-  tapes-stopped None stop r words own recorded offered asks empty = unnamed-stopped stop r words own recorded empty
-  tapes-stopped (Some named) stop r words own recorded offered asks empty = named-stopped named stop r words own recorded offered asks empty
-
   -- Not as many tapes as processes for them.
-  pub miscounted : (tapes : Option Name) (files : List Filled) (read : List Taped) (count : ℕ) → OnlyReads mid new (map whole files) → AreTapes mid.files tapes files read → count ≡ length read
+  miscounted : (tapes : Option Name) (files : List Filled) (read : List Taped) (count : ℕ) → OnlyReads mid new (map whole files) → AreTapes mid.files tapes files read → count ≡ length read
       → length read ≢ length (own_processes kinds plan) → (words : List (String Global)) (own : List Offer) (recorded : Recorded) → specs_of own ≡ kinds → Asks words (Replay name kept tapes) → IsNothing recorded
       → HasCause (so_far words own old new recorded) (TapesRefused (tapes_refusals.Count count))
   miscounted tapes files read count more are count_is differs words own recorded offered asks empty = record {
@@ -330,6 +263,76 @@ module _ (kinds : List KindSpec) (old mid new : Outside) (name kept net bytes : 
     shelf = behind-journal files more;
     nothing = empty;
   }
+
+  named-stopped : (wanted : ℕ) → wanted ≡ length (own_processes kinds plan) → (named : Name) (stop : Stop) → ReadsTapes wanted mid new (Some named) (Err stop) → (words : List (String Global)) (own : List Offer) (recorded : Recorded) → specs_of own ≡ kinds
+      → Asks words (Replay name kept (Some named)) → IsNothing recorded → HasCause (so_far words own old new recorded) stop
+  named-stopped wanted are named (TapesRefused (tapes_refusals.Byte place)) r words own recorded offered asks empty = record {
+    name = name;
+    kept = kept;
+    named = named;
+    asks = asks;
+    net = net;
+    text = text;
+    plan = plan;
+    file = its-file own offered;
+    bytes = bytes;
+    tells = journal;
+    is_journal = is_journal;
+    tape_bytes = r.0;
+    read = subst (λ (t : Option Files). IsRead t TAPE_FILE_LIMIT (named, r.0)) told-before r.2;
+    fault = r.3;
+    shelf = behind-journal ((named, r.0) ∷ []) r.1;
+    nothing = empty;
+  }
+  named-stopped wanted are named (TapesRefused (tapes_refusals.Count count)) r words own recorded offered asks empty =
+      miscounted (Some named) r.0 r.1 count r.2 r.3 r.4 (λ same. r.5 (r.4 ∙ same ∙ sym are)) words own recorded offered asks empty
+  named-stopped wanted are named (ReadFault read) r words own recorded offered asks empty = record {
+    name = name;
+    command = on-file words (Replay name kept (Some named)) name refl asks;
+    earlier = (name, net) ∷ (kept, bytes) ∷ [];
+    next = inl (TAPE_FILE_LIMIT, inr (inl (refl, next-tapes words own offered named (string_bytes read) r.0 asks)));
+    opened = r.1.0;
+    unended = subst (λ (n : Name). Unended n r.1.0) (sym r.0) r.1.1;
+    shelf = subst (λ (n : Name). FailsToRead old new (map whole ((name, net) ∷ (kept, bytes) ∷ []) ++ r.1.0) n) (sym r.0)
+        (FailsToRead-after old mid new (map whole ((name, net) ∷ (kept, bytes) ∷ [])) r.1.0 named only r.1.2);
+    nothing = empty;
+  }
+  named-stopped wanted are named (TooLong read) r words own recorded offered asks empty = record {
+    name = name;
+    command = on-file words (Replay name kept (Some named)) name refl asks;
+    earlier = (name, net) ∷ (kept, bytes) ∷ [];
+    limit = TAPE_FILE_LIMIT;
+    next = inr (inl (refl, next-tapes words own offered named (string_bytes read) r.0 asks));
+    more = subst (λ (n : Name). HoldsMore old.files TAPE_FILE_LIMIT n) (sym r.0) (subst (λ (t : Option Files). HoldsMore t TAPE_FILE_LIMIT named) told-before r.2);
+    shelf = subst (λ (n : Name). GivesMore old new (map whole ((name, net) ∷ (kept, bytes) ∷ [])) TAPE_FILE_LIMIT n) (sym r.0)
+        (GivesMore-after old mid new (map whole ((name, net) ∷ (kept, bytes) ∷ [])) [] TAPE_FILE_LIMIT named only r.1);
+    nothing = empty;
+  }
+  named-stopped wanted are named NoMemory may words own recorded offered asks empty = nothing-left words own recorded may empty
+  named-stopped wanted are named Words r words own recorded offered asks empty = absurd r
+  named-stopped wanted are named (Refused refusal) r words own recorded offered asks empty = absurd r
+  named-stopped wanted are named (NoPart process) r words own recorded offered asks empty = absurd r
+  named-stopped wanted are named (JournalRefused refusal) r words own recorded offered asks empty = absurd r
+  named-stopped wanted are named (WriteFault written) r words own recorded offered asks empty = absurd r
+
+  unnamed-stopped : (wanted : ℕ) → wanted ≡ length (own_processes kinds plan) → (stop : Stop) → ReadsTapes wanted mid new None (Err stop) → (words : List (String Global)) (own : List Offer) (recorded : Recorded)
+      → specs_of own ≡ kinds → Asks words (Replay name kept None) → IsNothing recorded → HasCause (so_far words own old new recorded) stop
+  unnamed-stopped wanted are NoMemory may words own recorded offered asks empty = nothing-left words own recorded may empty
+  unnamed-stopped wanted are (TapesRefused (tapes_refusals.Byte place)) r words own recorded offered asks empty = absurd r
+  unnamed-stopped wanted are (TapesRefused (tapes_refusals.Count count)) r words own recorded offered asks empty =
+      miscounted None r.0 r.1 count r.2 r.3 r.4 (λ same. r.5 (r.4 ∙ same ∙ sym are)) words own recorded offered asks empty
+  unnamed-stopped wanted are (ReadFault read) r words own recorded offered asks empty = absurd r
+  unnamed-stopped wanted are (TooLong read) r words own recorded offered asks empty = absurd r
+  unnamed-stopped wanted are Words r words own recorded offered asks empty = absurd r
+  unnamed-stopped wanted are (Refused refusal) r words own recorded offered asks empty = absurd r
+  unnamed-stopped wanted are (NoPart process) r words own recorded offered asks empty = absurd r
+  unnamed-stopped wanted are (JournalRefused refusal) r words own recorded offered asks empty = absurd r
+  unnamed-stopped wanted are (WriteFault written) r words own recorded offered asks empty = absurd r
+
+  pub tapes-stopped : (wanted : ℕ) → wanted ≡ length (own_processes kinds plan) → (tapes : Option Name) (stop : Stop) → ReadsTapes wanted mid new tapes (Err stop) → (words : List (String Global)) (own : List Offer) (recorded : Recorded) → specs_of own ≡ kinds
+      → Asks words (Replay name kept tapes) → IsNothing recorded → HasCause (so_far words own old new recorded) stop
+  tapes-stopped wanted are None stop r words own recorded offered asks empty = unnamed-stopped wanted are stop r words own recorded offered asks empty
+  tapes-stopped wanted are (Some named) stop r words own recorded offered asks empty = named-stopped wanted are named stop r words own recorded offered asks empty
 
 -- a stop at an input, behind the network file and what stands between
 module _ (kinds : List KindSpec) (old mid new : Outside) (name net : Name) (between : List Filled) (text : NetText) (plan : Network)

@@ -12,6 +12,7 @@ pub mod Networks
 pub mod NoKinds
 pub mod Offering
 pub mod Ordering
+pub mod OwnFiles
 pub mod Parting
 pub mod Passing
 pub mod Placing

@@ -19,6 +19,8 @@ use Rattle.flow_journal.specs.Files.{IsWritable}
 use Rattle.flow_journal.specs.Replays.{schedule_of, StopsAtTurn}
 use Rattle.flow_journal.specs.declared.merge.Journal.{Journal}
 use Rattle.flow_journal.specs.declared.refusal.Refusal.{Refusal as NoTurn}
+use Rattle.flow_report.specs.Text.{Told as Report, report_text}
+use Rattle.flow_report.specs.States.{TellsOf}
 use Rattle.flow_load.specs.Step.{Filled, OnlyReads, FailsToRead, Unended, IsRead, GivesMore, HoldsMore, whole}
 use Rattle.flow_load.specs.Many.{FailsAt, EndsAt}
 use Rattle.flow_load.specs.Offers.{AnyKind, Offer, Recorded, Taped, IsNothing, net_rules, specs_of, parts_of}
@@ -218,7 +220,9 @@ pub record IsWriteFault (w : Work) (written : Name) : Type 0 where
   pub last : State AnyKind
   pub middle : Outside
   pub run : IsRunOf w asked plan last middle
-  pub fails : FailsAt middle w.after (files_of_run plan last asked w.recorded) written
+  pub report : Report
+  pub tells : TellsOf plan last report
+  pub fails : FailsAt middle w.after (files_of_run plan last asked w.recorded (report_text report)) written
 
 -- A run was made, and memory was wanting before its last file was begun. Those that were begun were written whole.
 pub record IsCutOff (w : Work) : Type 0 where
@@ -228,7 +232,9 @@ pub record IsCutOff (w : Work) : Type 0 where
   pub last : State AnyKind
   pub middle : Outside
   pub run : IsRunOf w asked plan last middle
-  pub ends : EndsAt middle w.after (files_of_run plan last asked w.recorded)
+  pub report : Report
+  pub tells : TellsOf plan last report
+  pub ends : EndsAt middle w.after (files_of_run plan last asked w.recorded (report_text report))
 
 -- Each stop has its cause. That of want of memory says only what stands: all files of a run stand only behind its report.
 abbrev pub HasCause : Work → Stop → Type 0

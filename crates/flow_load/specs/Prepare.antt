@@ -1,12 +1,12 @@
 -- What a call does before its network runs: the words, the network file, a journal's file, the input files.
-use Rattle.std.specs.Prelude.{◌≡◌, ◌≤◌, ℕ, List, [], ◌∷◌, map, Some, Ok, Err, Vec, String, string_bytes, ⊤}
+use Rattle.std.specs.Prelude.{◌≡◌, ◌≢◌, ◌≤◌, ℕ, List, [], ◌∷◌, length, map, Some, Ok, Err, Vec, String, string_bytes, ⊤}
 use Rattle.std.specs.declared.option.Option.{Option}
 use Rattle.std.specs.declared.alloc.Global.{Global}
 use Rattle.std.specs.declared.result.Result.{Result}
 use Rattle.flow_limits.specs.declared.TheConstants.{NUMBER_LIMIT, WORKER_LIMIT}
 use Rattle.flow_text.specs.Edge.{Outside, Name, Logged}
 use Rattle.flow_plan.specs.Network.{Network}
-use Rattle.flow_words.specs.Words.{AskedRun, run_of, run_by, Check, Judge, Replay, Make, Kinds}
+use Rattle.flow_words.specs.Words.{AskedRun, run_of, run_by, Check, Judge, Replay, Make, Page}
 use Rattle.flow_parse.specs.declared.value.NetText.{NetText}
 use Rattle.flow_journal.specs.declared.merge.Journal.{Journal}
 use Rattle.flow_plan.specs.declared.kind.KindSpec.{KindSpec}
@@ -50,14 +50,15 @@ ReadsJournal old new name (Err (ReadFault read)) = (string_bytes read ≡ name) 
 ReadsJournal old new name (Err NoMemory) = MayRead old new
 ReadsJournal old new name (Err other) = ⊥
 
--- What reading the file of tapes that a replay names does to the shelf, where it names one.
-abbrev pub ReadsTapes : Outside → Outside → Option Name → Result (Vec Taped Global) Stop → Type 0
-ReadsTapes old new tapes (Ok read) = (files : List Filled) × OnlyReads old new (map whole files) × AreTapes old.files tapes files read.items
-ReadsTapes old new (Some name) (Err (TapesRefused (faults.Byte place))) = (bytes : List ℕ) × OnlyReads old new (whole (name, bytes) ∷ []) × IsRead old.files TAPE_FILE_LIMIT (name, bytes) × IsTapesFault bytes place
-ReadsTapes old new (Some name) (Err (ReadFault read)) = (string_bytes read ≡ name) × ((files : List Logged) × Unended name files × FailsToRead old new files name)
-ReadsTapes old new (Some name) (Err (TooLong read)) = (string_bytes read ≡ name) × GivesMore old new [] TAPE_FILE_LIMIT name × HoldsMore old.files TAPE_FILE_LIMIT name
-ReadsTapes old new tapes (Err NoMemory) = MayRead old new
-ReadsTapes old new tapes (Err other) = ⊥
+-- What reading the file of tapes that a replay names does to the shelf, where it names one and so many tapes are wanted. Where there are others, all of the file was read, and it has no fault.
+abbrev pub ReadsTapes : ℕ → Outside → Outside → Option Name → Result (Vec Taped Global) Stop → Type 0
+ReadsTapes wanted old new tapes (Ok read) = (files : List Filled) × OnlyReads old new (map whole files) × AreTapes old.files tapes files read.items × (length read.items ≡ wanted)
+ReadsTapes wanted old new tapes (Err (TapesRefused (faults.Count count))) = (files : List Filled) × (told : List Taped) × OnlyReads old new (map whole files) × AreTapes old.files tapes files told × (count ≡ length told) × (count ≢ wanted)
+ReadsTapes wanted old new (Some name) (Err (TapesRefused (faults.Byte place))) = (bytes : List ℕ) × OnlyReads old new (whole (name, bytes) ∷ []) × IsRead old.files TAPE_FILE_LIMIT (name, bytes) × IsTapesFault bytes place
+ReadsTapes wanted old new (Some name) (Err (ReadFault read)) = (string_bytes read ≡ name) × ((files : List Logged) × Unended name files × FailsToRead old new files name)
+ReadsTapes wanted old new (Some name) (Err (TooLong read)) = (string_bytes read ≡ name) × GivesMore old new [] TAPE_FILE_LIMIT name × HoldsMore old.files TAPE_FILE_LIMIT name
+ReadsTapes wanted old new tapes (Err NoMemory) = MayRead old new
+ReadsTapes wanted old new tapes (Err other) = ⊥
 
 -- The network that was read can run: each of its readers was given what its file holds, and these are its components, each of the caller's own a live part.
 pub record IsReadyToRun (own : List KindSpec) (old new : Outside) (name : Name) (job : Job AnyKind) : Type 0 where
@@ -115,5 +116,5 @@ Prepares own old new words (Ok (tasks.Judge plan)) = (name : Name) × Asks words
     × ((net : List ℕ) × (text : NetText) × OnlyReads old new (whole (name, net) ∷ []) × IsFile (specs_of own) old.files name net text plan)
 Prepares own old new words (Ok (tasks.Replay again)) = (name : Name) × (kept : Name) × (tapes : Option Name) × Asks words (Replay name kept tapes) × IsReadyAgain (specs_of own) old new name kept tapes again
 Prepares own old new words (Ok (tasks.Make number workers)) = AsksMake old new words number workers
-Prepares own old new words (Ok tasks.Kinds) = Asks words Kinds × (new ≡ old)
+Prepares own old new words (Ok (tasks.Page page)) = Asks words (Page page) × (new ≡ old)
 Prepares own old new words (Err stop) = (recorded : Recorded) → IsNothing recorded → HasCause (so_far words own old new recorded) stop

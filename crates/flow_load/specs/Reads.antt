@@ -9,7 +9,7 @@ use Rattle.flow_tape.specs.declared.TheConstants.{TAPE_FILE_LIMIT}
 use Rattle.flow_plan.specs.declared.kind.KindSpec.{KindSpec}
 use Rattle.flow_text.specs.Edge.{Outside, Name, Files, Logged}
 use Rattle.flow_plan.specs.Network.{Network}
-use Rattle.flow_words.specs.Words.{Asked, AskedRun, Run, run_of, Check, Judge, Replay, Make, Kinds, workers_asked, command_of}
+use Rattle.flow_words.specs.Words.{Asked, AskedRun, Run, run_of, Check, Judge, Replay, Make, Page, workers_asked, command_of}
 use Rattle.flow_parse.specs.declared.value.NetText.{NetText}
 use Rattle.flow_journal.specs.Files.{IsFileOf, IsFault}
 use Rattle.flow_journal.specs.declared.file.TheConstants.{HEADER_LENGTH}
@@ -24,14 +24,14 @@ use Rattle.flow_load.specs.Networks.{Holds}
 abbrev pub Asks : List (String Global) → Asked → Type 0
 Asks words asked = command_of (map string_bytes words) ≡ Some asked
 
--- The name of the network file of what is asked for. A make has none, nor has the page of kinds.
+-- The name of the network file of what is asked for. A make has none, nor has a page.
 abbrev pub file_of : Asked → Option Name
-file_of (Run name keeps tapes workers) = Some name
+file_of (Run name keeps tapes workers report) = Some name
 file_of (Check name) = Some name
 file_of (Judge name) = Some name
 file_of (Replay name kept tapes) = Some name
 file_of (Make number workers) = None
-file_of Kinds = None
+file_of (Page page) = None
 
 -- The words ask for workers: they are a run or a make by one worker or more.
 pub record AsksWorkers (words : List (String Global)) : Type 0 where

@@ -67,6 +67,11 @@ tapes_file (Some name) tapes = (name, tapes_written tapes) ∷ []
 abbrev pub kept_files : AskedRun → Recorded → List Filled
 kept_files asked recorded = journal_file asked.journal recorded.journal ++ tapes_file asked.tapes recorded.tapes
 
--- The files of a run with their bytes: those of its last state, and then those that it keeps for a replay.
-abbrev pub files_of_run : Network → State AnyKind → AskedRun → Recorded → List Filled
-files_of_run plan last asked recorded = outputs_of plan last ++ kept_files asked recorded
+-- The file of the report of a run, where one was named.
+abbrev pub report_file : Option Name → List ℕ → List Filled
+report_file None report = []
+report_file (Some name) report = (name, report) ∷ []
+
+-- The files of a run with their bytes: those of its last state, then those that it keeps for a replay, and then that of its report, where one was named.
+abbrev pub files_of_run : Network → State AnyKind → AskedRun → Recorded → List ℕ → List Filled
+files_of_run plan last asked recorded report = (outputs_of plan last ++ kept_files asked recorded) ++ report_file asked.report.file report

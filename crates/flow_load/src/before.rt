@@ -13,7 +13,7 @@ use crate::journal_file::read_journal;
 use crate::net_file::{NetFile, network};
 use crate::parts::parts_for;
 use crate::step::read_file;
-use crate::stop::{Stop, TapesRefusal, read_stop};
+use crate::stop::{Stop, read_stop};
 use crate::tapes::{count_own, read_tapes};
 use flow_catalogue::Std;
 use flow_component::Component;
@@ -24,7 +24,7 @@ use flow_parse::NetText;
 use flow_plan::{KindSpec, Plan};
 use flow_played::Played;
 use flow_text::Shelf;
-use flow_words::{Command, RunCommand, command};
+use flow_words::{Command, Page, RunCommand, command};
 use std::alloc::{AllocError, Global};
 
 /// A network that can run: its plan, and the components of its processes on what their files hold.
@@ -51,8 +51,8 @@ pub enum Task<'a, K: Component> {
     Check(NetText),
     /// Whether this plan is determinate is to be told.
     Judge(Plan),
-    /// The page of the standard kinds is to be printed.
-    Kinds,
+    /// This page is to be printed.
+    Page(Page),
     /// The turns of a journal are to be made again.
     Replay(Again),
     /// The network that is made from this number is to run by so many workers, or on one thread where there are none.
@@ -90,7 +90,7 @@ pub fn prepare<'a, F: Shelf, P: Part>(
             Ok(file) => Ok(Task::Judge(file.plan)),
             Err(stop) => Err(stop),
         },
-        Command::Kinds => Ok(Task::Kinds),
+        Command::Page(page) => Ok(Task::Page(page)),
         Command::Replay {
             net,
             journal,
@@ -154,13 +154,11 @@ fn replayable<F: Shelf>(
         Ok(journal) => journal,
         Err(stop) => return Err(stop),
     };
-    let tapes = match read_tapes(alloc, shelf, tapes) {
+    let wanted = count_own(&plan, kinds);
+    let tapes = match read_tapes(alloc, shelf, tapes, wanted) {
         Ok(tapes) => tapes,
         Err(stop) => return Err(stop),
     };
-    if tapes.len() != count_own(&plan, kinds) {
-        return Err(Stop::TapesRefused(TapesRefusal::Count(tapes.len() as u64)));
-    }
     let given = match read_inputs(alloc, shelf, &plan, kinds) {
         Ok(given) => given,
         Err(stop) => return Err(stop),

@@ -5,7 +5,7 @@ ghost use Rattle.flow_load.specs.Statuses.{code_of};
 /// How a call ended. The table is this project's own.
 #[derive(Clone, Copy, Debug, PartialEq, Eq)]
 pub enum Status {
-    /// The network finished and nothing is left; or a check found nothing against its file, a judge answered, or the page of kinds was printed.
+    /// The network finished and nothing is left; or a check found nothing against its file, a judge answered, or a page was printed.
     Finished,
     /// The network finished, and packets are left.
     FinishedLeft,

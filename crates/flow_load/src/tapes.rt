@@ -9,40 +9,49 @@ use crate::stop::{Stop, TapesRefusal, read_stop};
 use flow_offer::own_kind;
 use flow_own::Tape;
 use flow_plan::{KindSpec, Plan};
-use flow_tape::{TAPE_FILE_LIMIT, TapeStop, from_vec};
+use flow_tape::{CountStop, TAPE_FILE_LIMIT, so_many_from_vec};
 use flow_text::Shelf;
 use std::alloc::Global;
 
-/// The tapes of the file of this name; none where no file is named.
+/// The tapes of the file of this name, which have to be as many as are wanted; none where no file is named. The number in front of them is
+/// judged before anything is kept of them but the file's bytes.
 pub fn read_tapes<F: Shelf>(
     alloc: Global,
     shelf: &mut F,
     name: Option<&str>,
+    wanted: u32,
 ) -> Result<Vec<Tape>, Stop>
-    ensures { ReadsTapes (F.outside shelf.old) (F.outside shelf.new) (option_map (λ s. s.now) name.entry) result }
+    ensures { ReadsTapes wanted (F.outside shelf.old) (F.outside shelf.new) (option_map (λ s. s.now) name.entry) result }
 {
     let Some(name) = name else {
+        if wanted > 0 {
+            return Err(Stop::TapesRefused(TapesRefusal::Count(0)));
+        }
         return Ok(Vec::new(alloc));
     };
     let bytes = match read_file(alloc, shelf, name, TAPE_FILE_LIMIT) {
         Ok(bytes) => bytes,
         Err(stop) => return Err(read_stop(alloc, stop, name)),
     };
-    match from_vec(alloc, bytes) {
+    match so_many_from_vec(alloc, bytes, wanted) {
         Ok(tapes) => Ok(tapes),
-        Err(TapeStop::Fault(fault)) => Err(Stop::TapesRefused(TapesRefusal::Byte(fault.place))),
-        Err(TapeStop::NoMemory) => Err(Stop::NoMemory),
+        Err(CountStop::Fault(fault)) => Err(Stop::TapesRefused(TapesRefusal::Byte(fault.place))),
+        Err(CountStop::Count(number)) => {
+            let number = u64::from(number);
+            Err(Stop::TapesRefused(TapesRefusal::Count(number)))
+        }
+        Err(CountStop::NoMemory) => Err(Stop::NoMemory),
     }
 }
 
 /// How many processes of a plan are of kinds of the caller's own. Takes no memory.
-pub(crate) fn count_own(plan: &Plan, own: &[KindSpec]) -> usize
+pub(crate) fn count_own(plan: &Plan, own: &[KindSpec]) -> u32
     requires { IsOfferedPlan own.now plan.now }
     ensures { result ≡ length (own_processes own.now plan.now) }
 {
     let mut count = 0;
-    for process in 0..plan.processes().len() {
-        if own_kind(plan, process as u32, own).is_some() {
+    for process in 0..plan.processes().len() as u32 {
+        if own_kind(plan, process, own).is_some() {
             count += 1;
         }
     }

@@ -1,3 +1,4 @@
 pub mod MappingEnd
 pub mod MappingStream
 pub mod PlainStream
+pub mod Seams

@@ -5,3 +5,4 @@ pub mod Becoming
 pub mod Plain
 pub mod PlainLaws
 pub mod Letters
+pub mod Seams

@@ -10,5 +10,5 @@ pub use letters::{LetterCase, Letters};
 pub use mapper::{Made, Mapper, MapperPlace, Maps, Told};
 pub use meanings::{
     letters_keeps_its_meaning, mapper_comes_to_one_outcome, mapper_hears_the_end,
-    mapper_keeps_its_meaning,
+    mapper_keeps_its_meaning, parts_make_the_whole,
 };

@@ -3,6 +3,7 @@ ghost use Rattle.flow_component.specs.Laws.{AtMostOneOutcome};
 ghost use Rattle.flow_map.specs.Mapping.{mapper_rules};
 ghost use Rattle.flow_map.specs.Becoming.{MapperHears, MapperMeaning};
 ghost use Rattle.flow_map.specs.Letters.{LettersMeaning};
+ghost use Rattle.flow_map.specs.Seams.{PartsMakeTheWhole};
 
 use crate::Maps;
 
@@ -24,4 +25,10 @@ pub fn mapper_comes_to_one_outcome<M: Maps>()
 /// What a Letters has sent is what it got, each Normal packet with its letters in one case.
 pub fn letters_keeps_its_meaning()
     ensures { LettersMeaning }
+{}
+
+/// A line of components that map, each with one output and the same for each packet, looks across no seam: whether a
+/// stream goes through it whole, or in parts of which each has a run of its own, comes to the same.
+pub fn parts_make_the_whole()
+    ensures { PartsMakeTheWhole }
 {}

@@ -1,5 +1,5 @@
 mod Lists
 mod Tables
-mod Owns
+pub mod Owns
 mod Fitting
 mod Parts

@@ -1,6 +1,6 @@
 -- Each process of a valid plan over the standard kinds and the caller's own is of one of them.
 use Rattle.std.specs.Prelude.{not}
-use Rattle.std.proofs.Common.{◌≡◌, ℕ, ◌<◌, true, List, [], ◌∷◌, map, length, Option, Some, None, refl, sym, ap, subst, ◌∙◌, inl, inr, get_or, slice_get, slice_index_or}
+use Rattle.std.proofs.Common.{◌≡◌, ℕ, ◌<◌, Bool, true, false, List, [], ◌∷◌, map, length, Option, Some, None, refl, sym, ap, subst, ◌∙◌, inl, inr, get_or, slice_get, slice_index_or}
 use Rattle.std.specs.List.{list_all}
 use Rattle.std.specs.Option.{option_map, option_and_then}
 use Rattle.std.specs.Str.{bytes_eq}
@@ -15,19 +15,18 @@ use Rattle.flow_plan.specs.declared.kind.PortClass.TheVariants.{Stream, Number, 
 use Rattle.flow_plan.specs.declared.kind.PortSpec.{PortSpec}
 use Rattle.flow_plan.specs.declared.kind.KindSpec.{KindSpec}
 use Rattle.flow_plan.specs.declared.plan.Process.{Process}
-use Rattle.flow_plan.specs.declared.plan.PortTable.{PortTable}
-use Rattle.flow_plan.specs.declared.plan.PortRow.{PortRow}
 use Rattle.flow_plan.specs.Network.{Network, is_stream}
 use Rattle.flow_plan.specs.Valid.{IsValid}
 use Rattle.flow_net.specs.Kinds.{is_needed_array}
-use Rattle.flow_net.specs.Over.{carries, entries}
+use Rattle.flow_net.specs.Over.{carries}
 use Rattle.flow_catalogue.specs.declared.table.StdKind.{StdKind}
 use Rattle.flow_catalogue.specs.Kinds.{name_of, spec_of, all_kinds, std_kinds}
 use Rattle.flow_catalogue.specs.Rows.{IsCount, count_on}
 use Rattle.flow_catalogue.specs.Processes.{IsStandard}
 use Rattle.flow_catalogue.specs.Plans.{IsOfTable, OverIsStandardOrMore}
 use Rattle.flow_catalogue.proofs.Names.{place-of}
-use Rattle.flow_offer.specs.Kinds.{AreOwnKinds, kind_names, is_among, is_own_input, is_own_output, has_own_inputs, has_own_outputs}
+use Rattle.flow_catalogue.proofs.OptionTexts.{has-options}
+use Rattle.flow_offer.specs.Kinds.{AreOwnKinds, kind_names, is_among, is_own_output, has_own_outputs}
 use Rattle.flow_offer.specs.Processes.{place_of, own_place, IsOwnAt, IsStandardOrOwn}
 use Rattle.flow_offer.specs.Laws.{EachIsStandardOrOwn}
 use Rattle.flow_offer.proofs.Lists.{passes-at, any-at, one-place}
@@ -85,32 +84,24 @@ none-placed own are std name named = by (place_of own name) refl
     by None is = refl
     by (Some place) is = let at = place-named own name place is in absurd (none-shared own are std place at.kind at.here (sym named ∙ sym at.named))
 
+-- The kind of a process of the caller's own has the name of no standard kind.
+pub other-name : (own : List KindSpec) (plan : Network) (p : ℕ) → AreOwnKinds own → (mine : IsOwnAt own plan p) → (std : StdKind) → bytes_eq mine.process.kind (name_of std) ≡ false
+other-name own plan p are mine std = by (bytes_eq mine.process.kind (name_of std)) refl
+  where
+    by : (same : Bool) → bytes_eq mine.process.kind (name_of std) ≡ same → same ≡ false
+    by false is = refl
+    by true is = absurd (none-shared own are std mine.place mine.kind mine.here (sym ((bytes_eq-Decides mine.process.kind (name_of std)).0 is) ∙ mine.named))
+
 -- a process is not of a standard kind and of one of the caller's own
 not-both : (own : List KindSpec) (plan : Network) (p : ℕ) → AreOwnKinds own → IsStandard plan p → IsOwnAt own plan p → ⊥
 not-both own plan p are standard mine =
     let same : standard.process ≡ mine.process = (let a = standard.there in let b = mine.there in cc) in
     none-shared own are standard.kind mine.place mine.kind mine.here (sym standard.is_of_kind.named ∙ ap (λ (x : Process). x.kind) same ∙ mine.named)
 
--- a process of a kind without option ports has no options
-no-options : (own : List KindSpec) (plan : Network) (p : ℕ) → IsValid plan → (of : IsOfTable own plan p) → list_all is_own_input of.is_of_kind.kind.inputs ≡ true → of.process.options ≡ []
-no-options own plan p valid of inputs = by of.process.options refl
-  where
-    by : (options : List (ℕ × List ℕ)) → of.process.options ≡ options → options ≡ []
-    by [] is = refl
-    by (option ∷ options) is =
-        let first : slice_get of.process.options 0 ≡ Some (option.0, option.1) = ap (λ (l : List (ℕ × List ℕ)). slice_get l 0) is in
-        let port = (valid.options.fits p 0 option.0 of.process option.1 of.there first).port in
-        let same : port.table ≡ of.table = (let a = port.here in let b = of.tabled in cc) in
-        let row : slice_get of.table.inputs option.0 ≡ Some port.row = ap (λ (t : PortTable). slice_get t.inputs option.0) (sym same) ∙ port.at in
-        let entry : slice_get (entries of.table.inputs) option.0 ≡ Some port.row.spec = slice_get-map (λ (r : PortRow). r.spec) of.table.inputs option.0 ∙ ap (option_map (λ (r : PortRow). r.spec)) row in
-        let passes = passes-at is_own_input of.is_of_kind.kind.inputs inputs option.0 port.row.spec (ap (λ (l : List PortSpec). slice_get l option.0) (sym of.is_of_kind.inputs) ∙ entry) in
-        absurd (false≢true (sym port.option ∙ (and_true (is_stream port.row.spec.class) port.row.spec.needed passes).0))
-
 -- a process of the table behind the standard kinds is of a kind of the caller's own
 own-at : (own : List KindSpec) (plan : Network) (p : ℕ) → AreOwnKinds own → IsValid plan → (of : IsOfTable own plan p) → (is : IsOwnAt own plan p) × (is.place ≡ of.is_of_kind.place)
 own-at own plan p are valid of =
     let kind = of.is_of_kind.kind in
-    let inputs = passes-at has_own_inputs own are.inputs of.is_of_kind.place kind of.is_of_kind.here in
     let outputs = passes-at has_own_outputs own are.outputs of.is_of_kind.place kind of.is_of_kind.here in
     let same = carried kind.outputs outputs in (
       record {
@@ -127,7 +118,7 @@ own-at own plan p are valid of =
         inputs = of.inputs;
         outputs = subst (λ (l : List PortSpec). IsCount (count_on l) of.process.outputs) same of.outputs;
         needed = λ o need. valid.needed_outputs p o (record { table = of.table; here = of.tabled; needed = need });
-        no_options = no-options own plan p valid of inputs;
+        options = has-options plan p of.process of.table kind.inputs valid of.there of.tabled of.is_of_kind.inputs;
       },
       refl,
     )

@@ -2,7 +2,6 @@
 use Rattle.std.proofs.Common.{◌≡◌, Bool, true, false, List, [], ◌∷◌, ◌++◌, refl, ap, ◌∙◌}
 use Rattle.std.specs.Prelude.{◌&&◌, not, if◌then◌else◌}
 use Rattle.std.specs.List.{list_all, list_any}
-use Rattle.std.proofs.lemmas.Bool.{false≢true}
 use Rattle.std.proofs.lemmas.List.{map-append}
 use Rattle.std.proofs.lemmas.List.Folds.{list_all-append}
 use Rattle.flow_net.proofs.Ends.{and_true}
@@ -11,16 +10,16 @@ use Rattle.flow_plan.specs.Network.{is_stream}
 use Rattle.flow_plan.specs.declared.kind.PortSpec.{PortSpec}
 use Rattle.flow_plan.specs.declared.kind.KindSpec.{KindSpec}
 use Rattle.flow_catalogue.specs.Kinds.{std_kinds}
-use Rattle.flow_offer.specs.Kinds.{kind_names, is_among, is_own_input, is_own_output, has_own_inputs, has_own_outputs, has_different_ports, has_few_ports}
+use Rattle.flow_offer.specs.Kinds.{kind_names, is_among, names_file, is_own_input, is_own_output, has_own_inputs, has_own_outputs, has_different_ports, has_few_ports}
 use Rattle.flow_offer.specs.Laws.{OwnKindsMakeTable}
 use Rattle.flow_offer.proofs.Lists.{both, all-weaker, differ-append}
 
 own-input : (port : PortSpec) → is_own_input port ≡ true → is_input port ≡ true
 own-input port is = by (is_stream port.class) is
   where
-    by : (stream : Bool) → (stream && port.needed) ≡ true → (if stream then port.needed else not port.array) ≡ true
+    by : (stream : Bool) → (if stream then port.needed else (not port.array && not (names_file port.class))) ≡ true → (if stream then port.needed else not port.array) ≡ true
     by true is = is
-    by false is = absurd (false≢true is)
+    by false is = (and_true (not port.array) (not (names_file port.class)) is).0
 
 own-output : (port : PortSpec) → is_own_output port ≡ true → is_needed_array port ≡ true
 own-output port is = (and_true (is_stream port.class) (is_needed_array port) is).1

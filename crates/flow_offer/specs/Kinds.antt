@@ -1,11 +1,13 @@
 -- Kinds of the caller's own, and the table of kinds with them.
 use Rattle.flow_limits.specs.declared.TheConstants.{PORT_LIMIT}
-use Rattle.std.specs.Prelude.{ℕ, ◌&&◌, ◌++◌, nat_le, not, Bool, IsTrue, List, map, length}
+use Rattle.std.specs.Prelude.{ℕ, ◌&&◌, ◌++◌, if◌then◌else◌, nat_le, not, Bool, true, false, IsTrue, List, map, length}
 use Rattle.std.specs.List.{list_all, list_any}
 use Rattle.std.specs.Str.{bytes_eq}
 use Rattle.flow_parse.specs.Spelling.{is_word_byte}
 use Rattle.flow_parse.specs.Names.{is_name}
 use Rattle.flow_plan.specs.declared.kind.KindSpec.{KindSpec}
+use Rattle.flow_plan.specs.declared.kind.PortClass.{PortClass}
+use Rattle.flow_plan.specs.declared.kind.PortClass.TheVariants.{File}
 use Rattle.flow_plan.specs.declared.kind.PortSpec.{PortSpec}
 use Rattle.flow_plan.specs.Network.{is_stream}
 use Rattle.flow_net.specs.Kinds.{all_differ, is_needed_array}
@@ -27,9 +29,15 @@ port_names ports = map (λ (port : PortSpec). port.name) ports
 abbrev pub is_among : List (List ℕ) → List ℕ → Bool
 is_among names name = list_any (bytes_eq name) names
 
--- The input carries packets, and needs a connection or a text.
+-- The text of such a port is the name of a file.
+abbrev pub names_file : PortClass → Bool
+names_file File = true
+names_file _ = false
+
+-- The input carries packets, and needs a connection or a text; or it is an option: no array, and not the name of a file, since a plan doesn't tell which files a component
+-- of the caller's own reads or writes.
 abbrev pub is_own_input : PortSpec → Bool
-is_own_input port = is_stream port.class && port.needed
+is_own_input port = if is_stream port.class then port.needed else (not port.array && not (names_file port.class))
 
 -- The output carries packets; an array needs a connection at each element.
 abbrev pub is_own_output : PortSpec → Bool
@@ -56,7 +64,7 @@ abbrev pub has_own_outputs : KindSpec → Bool
 has_own_outputs kind = list_all is_own_output kind.outputs
 
 -- What the caller's own kinds are: they have names of network files, which differ from each other and from those of the standard kinds, and each has ports that a part can
--- serve. None has options.
+-- serve. Its options are checked with the plan, and none of them is the name of a file.
 pub record AreOwnKinds (own : List KindSpec) : Type 0 where
   pub named : IsTrue (list_all is_network_name (kind_names own))
   pub differ : IsTrue (all_differ (kind_names own))

@@ -1,5 +1,5 @@
 -- Processes of a plan whose kinds are the standard ones and the caller's own.
-use Rattle.std.specs.Prelude.{◌≡◌, ℕ, List, [], length, Option, Some, None, true, is_some, slice_get, position}
+use Rattle.std.specs.Prelude.{◌≡◌, ℕ, List, length, Option, Some, None, true, is_some, slice_get, position}
 use Rattle.std.specs.List.{filter, range_with_len}
 use Rattle.std.specs.Option.{option_and_then}
 use Rattle.std.specs.Str.{bytes_eq}
@@ -9,7 +9,7 @@ use Rattle.flow_plan.specs.declared.plan.PortTable.{PortTable}
 use Rattle.flow_plan.specs.Network.{Network}
 use Rattle.flow_plan.specs.Valid.{IsValid, HasSender, needs_of}
 use Rattle.flow_net.specs.Over.{IsOver, entries}
-use Rattle.flow_catalogue.specs.Rows.{IsCount, count_on}
+use Rattle.flow_catalogue.specs.Rows.{HasOptions, IsCount, count_on}
 use Rattle.flow_catalogue.specs.Processes.{IsStandard}
 use Rattle.flow_offer.specs.Kinds.{AreOwnKinds, table_with}
 
@@ -26,7 +26,7 @@ abbrev pub own_processes : List KindSpec → Network → List ℕ
 own_processes own plan = filter (λ p. is_some (own_place own plan p)) (range_with_len 0 (length plan.processes))
 
 -- Process p is of a kind of the caller's own: it has the kind's name and ports, as many inputs and outputs as these say, a connection at each output that needs one, and
--- no option.
+-- the options that the ports ask for.
 pub record IsOwnAt (own : List KindSpec) (plan : Network) (p : ℕ) : Type 0 where
   pub process : Process
   pub there : slice_get plan.processes p ≡ Some process
@@ -41,7 +41,7 @@ pub record IsOwnAt (own : List KindSpec) (plan : Network) (p : ℕ) : Type 0 whe
   pub inputs : IsCount (count_on kind.inputs) process.inputs
   pub outputs : IsCount (count_on kind.outputs) process.outputs
   pub needed : (o : ℕ) → slice_get (needs_of table.outputs) o ≡ Some true → HasSender plan p o
-  pub no_options : process.options ≡ []
+  pub options : HasOptions kind.inputs process.options
 
 -- Process p is of the kind at this place among the caller's own.
 pub record IsOwnOf (own : List KindSpec) (plan : Network) (p place : ℕ) : Type 0 where

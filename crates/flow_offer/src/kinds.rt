@@ -48,6 +48,17 @@ fn copy_kind(alloc: Global, kind: &KindSpec) -> Result<KindSpec, AllocError>
     })
 }
 
+/// Copies of these kinds.
+pub fn copies(alloc: Global, own: &[KindSpec]) -> Result<Vec<KindSpec>, AllocError>
+    ensures { IfOk result (λ copies. copies.items ≡ own.now) }
+{
+    let mut copies = Vec::new(alloc);
+    for spec in own {
+        copies.push(copy_kind(alloc, spec)?)?;
+    }
+    Ok(copies)
+}
+
 /// The table of the standard kinds, and behind them copies of these.
 pub fn table(alloc: Global, own: &[KindSpec]) -> Result<Vec<KindSpec>, AllocError>
     ensures { IfOk result (λ table. table.items ≡ table_with own.now) }

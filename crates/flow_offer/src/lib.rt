@@ -10,6 +10,6 @@ mod processes;
 mod shares;
 
 pub use fits::{own_components_fit, shape_at, used_outputs};
-pub use kinds::{own_kinds_make_a_table, table};
+pub use kinds::{copies, own_kinds_make_a_table, table};
 pub use processes::{each_process_is_standard_or_own, own_kind};
 pub use shares::no_part;

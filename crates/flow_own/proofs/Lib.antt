@@ -4,5 +4,6 @@ pub mod Players
 pub mod Recording
 pub mod Writable
 pub mod Many
+pub mod Passes
 pub mod Suffixes
 pub mod Winding

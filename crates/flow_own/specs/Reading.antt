@@ -34,6 +34,16 @@ abbrev pub Gives : {X Y : Type 0} → (X → Y) → Result X Unread → Result Y
 Gives view (Ok x) read = read ≡ Ok (view x)
 Gives view (Err stop) read = Stops stop read
 
+-- A function that takes no memory stopped: that is where reading does.
+abbrev pub StopsThere : {Y : Type 0} → Unread → Result Y ℕ → Type 0
+StopsThere (stops.Fault left) read = read ≡ Err left
+StopsThere stops.NoMemory read = ⊥
+
+-- A function that takes no memory gave what is read, as this view has it.
+abbrev pub Tells : {X Y : Type 0} → (X → Y) → Result X Unread → Result Y ℕ → Type 0
+Tells view (Ok x) read = read ≡ Ok (view x)
+Tells view (Err stop) read = StopsThere stop read
+
 -- A number of this width that is no more than the most.
 abbrev pub number_at : Width → ℕ → List ℕ → Read ℕ
 number_at width most bytes =

@@ -1,7 +1,7 @@
 //! From the bytes of entries to the entries.
 
 ghost use Rattle.std.specs.Prelude.{◌≡◌};
-ghost use Rattle.flow_own.specs.Reading.{Gives, many_at, behind, id_at, answer_at, kind_by, made_at, packet_at, dropped_at, send_at, end_with, end_at, entry_at};
+ghost use Rattle.flow_own.specs.Reading.{Gives, Tells, many_at, id_at, answer_at, kind_by, made_at, packet_at, dropped_at, send_at, end_with, end_at, entry_at};
 
 use crate::fields::{any_of, eight_of, four_of, one_of, text_of, two_of};
 use crate::tape::{End, Entry};
@@ -13,8 +13,8 @@ use flow_packet::{Kind, PacketId};
 use std::alloc::Global;
 
 #[tactic(auto, unfolding(crate::specs::Reading::answer_at))]
-fn answer_of(bytes: &[u8]) -> Result<(Answer, &[u8]), Unread>
-    ensures { Gives (λ x. (x.0, x.1.now)) result (answer_at bytes.now) }
+pub(crate) fn answer_of(bytes: &[u8]) -> Result<(Answer, &[u8]), Unread>
+    ensures { Tells (λ x. (x.0, x.1.now)) result (answer_at bytes.now) }
 {
     let (case, rest) = one_of(bytes, 4)?;
     match case {
@@ -92,7 +92,7 @@ fn dropped_of(alloc: Global, bytes: &[u8]) -> Result<(Items<PacketId>, &[u8]), U
 
 #[tactic(auto, unfolding(crate::specs::Reading::send_at))]
 fn send_of(bytes: &[u8]) -> Result<(End, &[u8]), Unread>
-    ensures { Gives (λ x. (x.0, x.1.now)) result (send_at bytes.now) }
+    ensures { Tells (λ x. (x.0, x.1.now)) result (send_at bytes.now) }
 {
     let (port, rest) = any_of(bytes)?;
     let (id, rest) = eight_of(rest)?;
@@ -113,8 +113,8 @@ fn end_with_number(case: u8, number: u32) -> End
 }
 
 #[tactic(auto, unfolding(crate::specs::Reading::end_at))]
-fn end_of(bytes: &[u8]) -> Result<(End, &[u8]), Unread>
-    ensures { Gives (λ x. (x.0, x.1.now)) result (end_at bytes.now) }
+pub(crate) fn end_of(bytes: &[u8]) -> Result<(End, &[u8]), Unread>
+    ensures { Tells (λ x. (x.0, x.1.now)) result (end_at bytes.now) }
 {
     let (case, rest) = one_of(bytes, 7)?;
     match case {
@@ -154,16 +154,4 @@ pub(crate) fn entry_of(alloc: Global, bytes: &[u8]) -> Result<(Entry, &[u8]), Un
         end,
     };
     Ok((entry, rest))
-}
-
-// Goes over so many entries, and gives the bytes behind them.
-pub(crate) fn pass_entries(alloc: Global, count: usize, bytes: &[u8]) -> Result<&[u8], Unread>
-    ensures { Gives (λ rest. rest.now) result (behind (many_at entry_at count bytes.now)) }
-{
-    let mut rest = bytes;
-    for _ in 0..count {
-        let (_, after) = entry_of(alloc, rest)?;
-        rest = after;
-    }
-    Ok(rest)
 }

@@ -4,7 +4,8 @@ ghost use Rattle.std.specs.Prelude.{◌≡◌, ◌≤◌, ◌<◌, ◌⊎◌, �
 ghost use Rattle.flow_own.specs.Reading.{Gives, many_at, entry_at};
 ghost use Rattle.flow_own.specs.Reels.{entry_after};
 
-use crate::read::{entry_of, pass_entries};
+use crate::pass::pass_entries;
+use crate::read::entry_of;
 use crate::tape::Entry;
 use crate::unread::Unread;
 use bytes::Bytes;
@@ -55,7 +56,7 @@ fn head_for(head: Head, place: usize) -> Head
 fn entry_behind(alloc: Global, count: usize, bytes: &[u8]) -> Result<(Entry, &[u8]), Unread>
     ensures { Gives (λ x. (x.0, x.1.now)) result (entry_after count bytes.now) }
 {
-    match pass_entries(alloc, count, bytes) {
+    match pass_entries(count, bytes) {
         Ok(rest) => entry_of(alloc, rest),
         Err(stop) => Err(stop),
     }
@@ -66,7 +67,7 @@ impl Reel {
     pub fn read(alloc: Global, count: u32, bytes: Bytes) -> Result<(Reel, Bytes), Unread>
         ensures { Gives (λ x. x) result (many_at entry_at count bytes) }
     {
-        let left = match pass_entries(alloc, count as usize, bytes.as_slice()) {
+        let left = match pass_entries(count as usize, bytes.as_slice()) {
             Ok(rest) => rest.len(),
             Err(stop) => return Err(stop),
         };

@@ -9,6 +9,7 @@ use flow_cli::OwnKind;
 use flow_component::Wish;
 use flow_number::{number_is_an_own_kind, number_kind};
 use flow_own::{Part, PartStop};
+use flow_plan::KindSpec;
 use own_kind::lines_kind;
 use std::alloc::{AllocError, Global};
 
@@ -27,6 +28,19 @@ pub fn kind_of<P: Part>(alloc: Global, parts: Vec<P>) -> Result<Vec<OwnKind<P>>,
 fn both_are_own_kinds()
     ensures { AreOwnKinds (lines_kind ∷ number_kind ∷ []) }
 {}
+
+/// The kinds Lines and Number.
+pub fn both_kinds(alloc: Global) -> Result<Vec<KindSpec>, AllocError>
+    ensures { IfOk result (λ kinds. AreOwnKinds kinds.items) }
+{
+    both_are_own_kinds();
+    let first = lines_kind(alloc)?;
+    let second = number_kind(alloc)?;
+    let mut kinds = Vec::new(alloc);
+    kinds.push(first)?;
+    kinds.push(second)?;
+    Ok(kinds)
+}
 
 /// The kinds Lines and Number with these parts.
 pub fn two_kinds<P: Part>(

@@ -1,5 +1,5 @@
-//! Trials of what a run is made of: lists, packets in the hands, brackets, components and journals, each in the file that
-//! is named after it. Nothing uses it: its tests show worked values, and that calls succeed with ample memory. Each test
+//! Trials of what a run is made of: lists, packets in the hands, brackets, components, those that work by line, and journals,
+//! each in the file that is named after it. Nothing uses it: its tests show worked values, and that calls succeed with ample memory. Each test
 //! is proved like any function: it is safe, and it ends.
 #![tactic(auto)]
 
@@ -9,6 +9,8 @@ mod brackets;
 mod hands;
 #[cfg(test)]
 mod journals;
+#[cfg(test)]
+mod lines;
 #[cfg(test)]
 mod lists;
 #[cfg(test)]

@@ -1,5 +1,5 @@
 -- What a report tells, and the lines in which it is printed.
-use Rattle.std.specs.Prelude.{ℕ, List, [], ◌∷◌, ◌++◌, map, length, slice_get, unwrap_or, codes}
+use Rattle.std.specs.Prelude.{ℕ, zero, suc, ◌-◌, List, [], ◌∷◌, ◌++◌, map, length, take, slice_get, unwrap_or, codes}
 use Rattle.std.specs.List.{flat_map}
 use Rattle.std.specs.Option.{option_map}
 use Rattle.std.specs.Fmt.{decimal}
@@ -21,6 +21,7 @@ use Rattle.flow_component.specs.declared.OwnFail.TheVariants as owns
 use Rattle.flow_report.specs.declared.report.Failure.{Failure}
 use Rattle.flow_report.specs.declared.report.LeftPacket.{LeftPacket}
 use Rattle.flow_report.specs.declared.report.Place.{Place}
+use Rattle.flow_report.specs.declared.report.TheConstants.{BRIEF_LEFT}
 use Rattle.flow_report.specs.declared.report.Place.TheVariants.{InHands, InConnection, InChain}
 
 -- What a report tells: the verdict; each process and each connection; who can't go on; the cycle of those that wait for one another in a deadlock; who
@@ -132,18 +133,33 @@ abbrev pub total_line : ℕ → ℕ → ℕ → ℕ → List ℕ
 total_line turns made dropped left =
     codes "total turns " ++ decimal turns ++ codes " made " ++ decimal made ++ codes " dropped " ++ decimal dropped ++ codes " left " ++ decimal left
 
--- The lines of a report: the verdict; each process; each connection; each process that can't go on; each that waits in the cycle of a deadlock; each that
--- failed; each packet that is left; the totals.
-abbrev pub report_lines : Told → List (List ℕ)
-report_lines r =
+-- The first lines of a report: the verdict; each process; each connection; each process that can't go on; each that waits in the cycle of a deadlock; each that
+-- failed.
+abbrev pub head_lines : Told → List (List ℕ)
+head_lines r =
     (verdict_line r.verdict ∷ [])
     ++ map process_line r.processes
     ++ map connection_line r.connections
     ++ map blocked_line r.blocked
     ++ map (waits_line r.processes r.connections) r.waits
     ++ map failed_line r.failed
-    ++ map (left_line r.processes r.connections) r.left
-    ++ (total_line r.turns r.made r.dropped (length r.left) ∷ [])
+
+-- The lines of a report in which these tell of the packets that are left, and behind them the totals.
+abbrev pub lines_around : List (List ℕ) → Told → List (List ℕ)
+lines_around left r = head_lines r ++ left ++ (total_line r.turns r.made r.dropped (length r.left) ∷ [])
+
+-- The lines of a report: each packet that is left has one.
+abbrev pub report_lines : Told → List (List ℕ)
+report_lines r = lines_around (map (left_line r.processes r.connections) r.left) r
+
+-- How many packets more are left, if there are any.
+abbrev pub more_lines : ℕ → List (List ℕ)
+more_lines zero = []
+more_lines (suc n) = (codes "left " ++ decimal (suc n) ++ codes " more") ∷ []
+
+-- The lines of a report in brief: of the packets that are left the first have one each, and one line tells how many more there are.
+abbrev pub brief_lines : Told → List (List ℕ)
+brief_lines r = lines_around (map (left_line r.processes r.connections) (take BRIEF_LEFT r.left) ++ more_lines (length r.left - BRIEF_LEFT)) r
 
 -- A line, with the byte that ends it.
 abbrev pub ended : List ℕ → List ℕ
@@ -152,3 +168,7 @@ ended line = line ++ 10 ∷ []
 -- The text of a report is its lines, each with the byte that ends it.
 abbrev pub report_text : Told → List ℕ
 report_text r = flat_map ended (report_lines r)
+
+-- The text of a report in brief likewise.
+abbrev pub brief_text : Told → List ℕ
+brief_text r = flat_map ended (brief_lines r)

@@ -12,6 +12,7 @@ mod rows;
 mod states;
 
 pub use report::{
-    Blocked, Cause, ConnectionLine, Failure, LeftPacket, Place, ProcessLine, Report, Verdict, Wait,
+    BRIEF_LEFT, Blocked, Cause, ConnectionLine, Failure, LeftPacket, Place, ProcessLine, Report,
+    Verdict, Wait,
 };
 pub use states::{a_report_tells_of_its_state, a_state_has_one_report};

@@ -2,7 +2,7 @@
 ghost use Rattle.std.specs.Prelude.{◌≡◌, ◌++◌, OnOk};
 ghost use Rattle.std.specs.List.{flat_map};
 ghost use Rattle.std.specs.Fmt.{decimal};
-ghost use Rattle.flow_report.specs.Text.{ended, verdict_line, process_line, connection_line, status_text, wait_text, own_text, cause_text, blocked_line, waits_line, failed_line, left_line, packet_text, place_text, process_name, connection_name, total_line};
+ghost use Rattle.flow_report.specs.Text.{ended, verdict_line, process_line, connection_line, status_text, wait_text, own_text, cause_text, blocked_line, waits_line, failed_line, left_line, more_lines, packet_text, place_text, process_name, connection_name, total_line};
 
 use crate::report::{
     Blocked, Cause, ConnectionLine, Failure, LeftPacket, Place, ProcessLine, Verdict, Wait,
@@ -272,6 +272,17 @@ fn connection_name(connections: &[ConnectionLine], connection: u32) -> &[u8]
         Some(line) => line.name.as_slice(),
         None => b"",
     }
+}
+
+/// Appends how many packets more are left, if there are any.
+pub fn put_more(text: &mut Vec<u8>, count: u64) -> Result<(), AllocError>
+    ensures { OnOk result (text.new.items ≡ text.old.items ++ flat_map ended (more_lines count)) }
+{
+    if count == 0 {
+        return Ok(());
+    }
+    put_number(text, b"left ", count)?;
+    text.extend_from_slice(b" more\n")
 }
 
 /// Appends the line of the totals.

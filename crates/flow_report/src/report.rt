@@ -1,9 +1,10 @@
 //! What a run came to.
-ghost use Rattle.std.specs.Prelude.{◌≡◌, IfOk};
+ghost use Rattle.std.specs.Prelude.{◌≡◌, ◌++◌, IfOk, OnOk, length, map};
+ghost use Rattle.std.specs.List.{flat_map};
 
 use crate::lines::{
-    put_blocked, put_connections, put_failed, put_left, put_processes, put_total, put_verdict,
-    put_waits,
+    put_blocked, put_connections, put_failed, put_left, put_more, put_processes, put_total,
+    put_verdict, put_waits,
 };
 use crate::of::{all_blocked, all_failed, all_waits, totals_of, verdict_of};
 use crate::rows::{all_connections, all_processes};
@@ -15,6 +16,9 @@ use flow_packet::PacketId;
 use flow_plan::Plan;
 use std::alloc::{AllocError, Global};
 use std::marker::Model;
+
+/// How many of the packets that are left a report in brief names.
+pub const BRIEF_LEFT: usize = 10;
 
 /// What a run came to as a whole. That the verdict is exact is this project's own.
 #[derive(Clone, Copy, Debug, PartialEq, Eq)]
@@ -149,7 +153,7 @@ impl Model for Report {
 
 impl Report {
     ghost use Rattle.flow_report.specs.Of.{told_of};
-    ghost use Rattle.flow_report.specs.Text.{report_text};
+    ghost use Rattle.flow_report.specs.Text.{brief_text, ended, head_lines, left_line, report_text, total_line};
 
     /// The report of a network of this plan, whether or not a process can go on there. Its rules are this
     /// project's own.
@@ -193,9 +197,31 @@ impl Report {
     pub fn print(&self) -> Result<Vec<u8>, AllocError>
         ensures { IfOk result (λ text. text.items ≡ report_text self.now) }
     {
+        let mut text = self.head()?;
+        self.put_left(&mut text, self.left.as_slice())?;
+        self.put_end(&mut text)?;
+        Ok(text)
+    }
+
+    /// The lines of the report in brief: of the packets that are left it names the first, and tells how many more there are.
+    pub fn print_brief(&self) -> Result<Vec<u8>, AllocError>
+        ensures { IfOk result (λ text. text.items ≡ brief_text self.now) }
+    {
+        let left = self.left.as_slice();
+        let named = BRIEF_LEFT.min(left.len());
+        let mut text = self.head()?;
+        self.put_left(&mut text, &left[..named])?;
+        put_more(&mut text, (left.len() - named) as u64)?;
+        self.put_end(&mut text)?;
+        Ok(text)
+    }
+
+    // The lines before those of the packets that are left.
+    fn head(&self) -> Result<Vec<u8>, AllocError>
+        ensures { IfOk result (λ text. text.items ≡ flat_map ended (head_lines self.now)) }
+    {
         let processes = self.processes.as_slice();
         let connections = self.connections.as_slice();
-        let left = self.left.as_slice();
         let mut text = Vec::new(self.alloc);
         put_verdict(&mut text, self.verdict)?;
         put_processes(&mut text, processes)?;
@@ -203,14 +229,26 @@ impl Report {
         put_blocked(&mut text, self.blocked.as_slice())?;
         put_waits(&mut text, processes, connections, self.waits.as_slice())?;
         put_failed(&mut text, self.failed.as_slice())?;
-        put_left(&mut text, processes, connections, left)?;
-        put_total(
-            &mut text,
-            self.turns,
-            self.made,
-            self.dropped,
-            left.len() as u64,
-        )?;
         Ok(text)
+    }
+
+    // Appends the lines of these packets, which are left.
+    fn put_left(&self, text: &mut Vec<u8>, left: &[LeftPacket]) -> Result<(), AllocError>
+        ensures { OnOk result (text.new.items ≡ text.old.items ++ flat_map ended (map (left_line self.now.processes self.now.connections) left.now)) }
+    {
+        put_left(
+            text,
+            self.processes.as_slice(),
+            self.connections.as_slice(),
+            left,
+        )
+    }
+
+    // Appends the line of the totals.
+    fn put_end(&self, text: &mut Vec<u8>) -> Result<(), AllocError>
+        ensures { OnOk result (text.new.items ≡ text.old.items ++ ended (total_line self.now.turns self.now.made self.now.dropped (length self.now.left))) }
+    {
+        let left = self.left.as_slice().len() as u64;
+        put_total(text, self.turns, self.made, self.dropped, left)
     }
 }

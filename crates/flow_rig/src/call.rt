@@ -110,7 +110,8 @@ pub fn call_alone_with<P: Part>(
     }
     let mut shelf = shelf_of(alloc, files)?;
     let mut out = sink_of(alloc)?;
-    let outcome = plain_top(alloc, &words, &mut shelf, &mut out, own);
+    let mut err = sink_of(alloc)?;
+    let outcome = plain_top(alloc, &words, &mut shelf, &mut out, &mut err, own);
     Ok(told(alloc, outcome, shelf, &out)?)
 }
 
@@ -119,7 +120,29 @@ pub fn call_alone(alloc: Global, line: &[&str], files: &[File]) -> Result<Called
     call_alone_with(alloc, line, files, no_kinds(alloc))
 }
 
-/// A call with these words, which ask for workers, over these files, where nothing fails, and with the standard kinds alone.
+/// A call with these words, which ask for workers, over these files, where nothing fails, and with these kinds of the caller's own.
+pub fn call_by_workers_with<R: Threads + Wait + Sync, G: Gate + Sync, P: Part + Send>(
+    rt: &R,
+    alloc: Global,
+    line: &[&str],
+    files: &[File],
+    gate: &G,
+    own: Vec<OwnKind<P>>,
+) -> Result<Called, CallStop>
+    requires { AreOwnKinds (specs_of (offers_of own.items)) }
+{
+    let words = words_of(alloc, line)?;
+    if !needs_workers(alloc, &words)? {
+        return Err(CallStop::OtherEngine);
+    }
+    let mut shelf = shelf_of(alloc, files)?;
+    let mut out = sink_of(alloc)?;
+    let mut err = sink_of(alloc)?;
+    let outcome = busy_top(rt, alloc, &words, &mut shelf, &mut out, &mut err, gate, own);
+    Ok(told(alloc, outcome, shelf, &out)?)
+}
+
+/// The same with the standard kinds alone.
 pub fn call_by_workers<R: Threads + Wait + Sync, G: Gate + Sync>(
     rt: &R,
     alloc: Global,
@@ -127,20 +150,5 @@ pub fn call_by_workers<R: Threads + Wait + Sync, G: Gate + Sync>(
     files: &[File],
     gate: &G,
 ) -> Result<Called, CallStop> {
-    let words = words_of(alloc, line)?;
-    if !needs_workers(alloc, &words)? {
-        return Err(CallStop::OtherEngine);
-    }
-    let mut shelf = shelf_of(alloc, files)?;
-    let mut out = sink_of(alloc)?;
-    let outcome = busy_top(
-        rt,
-        alloc,
-        &words,
-        &mut shelf,
-        &mut out,
-        gate,
-        no_kinds(alloc),
-    );
-    Ok(told(alloc, outcome, shelf, &out)?)
+    call_by_workers_with(rt, alloc, line, files, gate, no_kinds(alloc))
 }

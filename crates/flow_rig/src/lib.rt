@@ -10,7 +10,9 @@ mod starting;
 mod turns;
 
 pub use asker::Asker;
-pub use call::{CallStop, Called, File, call_alone, call_alone_with, call_by_workers};
+pub use call::{
+    CallStop, Called, File, call_alone, call_alone_with, call_by_workers, call_by_workers_with,
+};
 pub use network::{TrialStop, plan_of_text};
 pub use starting::{askers, standard_components, started};
 pub use turns::{next_turn, seen_turn};

@@ -20,10 +20,11 @@ pub struct Around {
     print_piece: usize,
     /// How many bytes a file that is written may have, and all that is printed.
     room: usize,
-    /// Which calls for a read fail, which for a write to a file, and which writes of what is printed.
+    /// Which calls for a read fail, which for a write to a file, which writes of what is printed, and which to the error output.
     read_fails: Vec<u64>,
     write_fails: Vec<u64>,
     print_fails: Vec<u64>,
+    tell_fails: Vec<u64>,
     /// How many parts of the kind Number are handed in, if that kind is.
     pub parts: Option<u64>,
 }
@@ -40,6 +41,7 @@ impl Around {
             read_fails: Vec::new(alloc),
             write_fails: Vec::new(alloc),
             print_fails: Vec::new(alloc),
+            tell_fails: Vec::new(alloc),
             parts: None,
         }
     }
@@ -61,6 +63,7 @@ impl Around {
             "read-fails" => Ok(self.read_fails = numbers(self.alloc, rest)?),
             "write-fails" => Ok(self.write_fails = numbers(self.alloc, rest)?),
             "print-fails" => Ok(self.print_fails = numbers(self.alloc, rest)?),
+            "tell-fails" => Ok(self.tell_fails = numbers(self.alloc, rest)?),
             "parts" => Ok(self.parts = Some(number(rest)?)),
             _ => Err(RowStop::Unknown),
         }
@@ -144,10 +147,19 @@ impl Around {
 
     /// What takes what the next call prints.
     pub fn sink(&self) -> Result<MemSink, RowStop> {
+        self.sink_failing(self.print_fails.clone()?)
+    }
+
+    /// What takes what the next call says at the error output.
+    pub fn err_sink(&self) -> Result<MemSink, RowStop> {
+        self.sink_failing(self.tell_fails.clone()?)
+    }
+
+    // A sink whose writes of these numbers fail.
+    fn sink_failing(&self, fails: Vec<u64>) -> Result<MemSink, RowStop> {
         if self.print_piece == 0 {
             return Err(RowStop::Unknown);
         }
-        let fails = self.print_fails.clone()?;
         Ok(MemSink::new(self.alloc, self.print_piece, self.room, fails)?)
     }
 }

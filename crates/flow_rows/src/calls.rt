@@ -14,6 +14,7 @@ use flow_draw::draw_top;
 use flow_limits::NUMBER_LIMIT;
 use flow_make::make;
 use flow_number::{Number, number_is_an_own_kind, number_kind};
+use flow_plan::KindSpec;
 use flow_text::{MemShelf, MemSink};
 use std::alloc::{AllocError, Global};
 use std::sync::Wait;
@@ -81,8 +82,17 @@ fn call_flow<R: Threads + Wait + Sync>(
     let words = words_of(alloc, line)?;
     let mut shelf = around.shelf()?;
     let mut out = around.sink()?;
-    let outcome = run_flow(rt, alloc, around.parts, &words, &mut shelf, &mut out)?;
-    Ok(Came::of(alloc, &outcome, shelf, &out)?)
+    let mut err = around.err_sink()?;
+    let outcome = run_flow(
+        rt,
+        alloc,
+        around.parts,
+        &words,
+        &mut shelf,
+        &mut out,
+        &mut err,
+    )?;
+    Ok(Came::of(alloc, &outcome, shelf, &out, &err)?)
 }
 
 // The call itself.
@@ -93,13 +103,26 @@ fn run_flow<R: Threads + Wait + Sync>(
     words: &[String],
     shelf: &mut MemShelf,
     out: &mut MemSink,
+    err: &mut MemSink,
 ) -> Result<Outcome, AllocError> {
     let by_workers = needs_workers(alloc, words)?;
     let own = own_kinds(alloc, parts)?;
     if by_workers {
-        return Ok(busy_top(rt, alloc, words, shelf, out, &NoGate, own));
+        return Ok(busy_top(rt, alloc, words, shelf, out, err, &NoGate, own));
     }
-    Ok(plain_top(alloc, words, shelf, out, own))
+    Ok(plain_top(alloc, words, shelf, out, err, own))
+}
+
+/// The kind Number, or no kind at all, as a drawing takes it.
+fn drawn_kinds(alloc: Global, count: Option<u64>) -> Result<Vec<KindSpec>, AllocError>
+    ensures { IfOk result (λ own. AreOwnKinds own.items) }
+{
+    let mut own = Vec::new(alloc);
+    if count.is_some() {
+        own.push(number_kind(alloc)?)?;
+        number_is_an_own_kind();
+    }
+    Ok(own)
 }
 
 // What the program `draw` does with these words.
@@ -107,7 +130,8 @@ fn call_draw(alloc: Global, around: &Around, line: &str) -> Result<Came, RowStop
     let words = words_of(alloc, line)?;
     let mut shelf = around.shelf()?;
     let mut out = around.sink()?;
-    let drawn = draw_top(alloc, &words, &mut shelf, &mut out);
+    let own = drawn_kinds(alloc, around.parts)?;
+    let drawn = draw_top(alloc, &words, &mut shelf, &mut out, &own);
     let printed = out.bytes().to_vec(alloc)?;
     let mut came = Came::printed(alloc, drawn.status(), printed, shelf);
     came.told = drawn.text(alloc)?;

@@ -38,9 +38,11 @@ impl Came {
         outcome: &Outcome,
         shelf: MemShelf,
         out: &MemSink,
+        err: &MemSink,
     ) -> Result<Came, AllocError> {
         let printed = out.bytes().to_vec(alloc)?;
         let mut came = Came::printed(alloc, outcome.status, printed, shelf);
+        came.told = err.bytes().to_vec(alloc)?;
         came.count(outcome)?;
         Ok(came)
     }

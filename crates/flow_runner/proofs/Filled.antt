@@ -1,12 +1,12 @@
 -- What the passes of all lines pushed together, when one of them pushes a process more.
-use Rattle.std.proofs.Common.{◌≡◌, ℕ, zero, suc, ◌+◌, ◌<◌, ◌∷◌, ◌++◌, Bool, true, false, cond, nat_lt, nat_eq, List, [], get_or, set, length, refl, arith, ap, ◌∙◌}
+use Rattle.std.proofs.Common.{◌≡◌, ℕ, zero, suc, ◌+◌, ◌<◌, ◌∷◌, ◌++◌, Bool, true, false, cond, nat_lt, nat_eq, List, [], get_or, map, set, length, refl, arith, ap, ◌∙◌}
 use Rattle.std.proofs.lemmas.Bool.Decides.{nat_tests}
 use Rattle.std.specs.Prelude.{sum_by}
-use Rattle.std.proofs.lemmas.List.Sums.{sum_by-cons}
+use Rattle.std.proofs.lemmas.List.Sums.{sum_by-append, sum_by-cons}
 use Rattle.flow_runner.specs.declared.line.LinePass.{LinePass}
 use Rattle.flow_runner.specs.Fair.{times}
 use Rattle.flow_runner.specs.Lines.{pushes_of}
-use Rattle.flow_runner.specs.Posts.{once_below, PushesEach}
+use Rattle.flow_runner.specs.Posts.{once_below, passes_in, PushesEach}
 use Rattle.flow_runner.proofs.Lined.{times-append}
 
 -- A sum over a list of which one member was set.
@@ -41,3 +41,12 @@ each-more ps qs n i p d each within pushed q =
     let f : LinePass → ℕ = λ x. times q (pushes_of x) in
     let more : f p ≡ f (get_or qs i d) + times q (n ∷ []) = ap (times q) pushed ∙ times-append q (pushes_of (get_or qs i d)) (n ∷ []) in
     omega (arith, sum-set f qs i p d within, more, each q, once-more n q)
+
+-- Where those of one row pushed each process once more, those of all rows did.
+pub each-of-rows : {R : Type 0} (f : R → List LinePass) (rows : List R) (old new : R) (n : ℕ) → PushesEach n (f old) (f new) → PushesEach n (passes_in (map f (rows ++ old ∷ []))) (passes_in (map f (rows ++ new ∷ [])))
+each-of-rows f [] old new n each q =
+    let count : LinePass → ℕ = λ p. times q (pushes_of p) in omega (arith, each q, sum_by-append count (f old) [], sum_by-append count (f new) [])
+each-of-rows f (row ∷ rows) old new n each q =
+    let count : LinePass → ℕ = λ p. times q (pushes_of p) in
+    let rest = each-of-rows f rows old new n each q in
+    omega (arith, rest, sum_by-append count (f row) (passes_in (map f (rows ++ old ∷ []))), sum_by-append count (f row) (passes_in (map f (rows ++ new ∷ []))))

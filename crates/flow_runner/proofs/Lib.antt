@@ -1,9 +1,13 @@
 pub mod Attempts
+pub mod Closed
 pub mod Crews
 pub mod Fairs
+pub mod InOrder
 pub mod Lined
+pub mod Places
 pub mod Serves
 pub mod Served
+pub mod Several
 pub mod Budgets
 pub mod Crossing
 pub mod Joined
@@ -12,3 +16,4 @@ pub mod Rounds
 pub mod Followed
 pub mod Filled
 pub mod Gates
+pub mod Told

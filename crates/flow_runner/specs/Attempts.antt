@@ -1,5 +1,7 @@
 -- What an attempt at turns says of the process.
 use Rattle.std.specs.Prelude.{◌≡◌, ℕ, ◌+◌, ◌≤◌, ◌⊎◌, List, length}
+use Rattle.flow_floor.specs.declared.floor.Burst.{Burst}
+use Rattle.flow_floor.specs.declared.floor.Burst.TheVariants as burst
 use Rattle.flow_floor.specs.declared.floor.Floor.{Floor}
 use Rattle.flow_floor.specs.declared.floor.Worker.{Worker}
 use Rattle.flow_floor.specs.declared.floor.Held.{Held}
@@ -18,7 +20,8 @@ module _ {K : Type 0} where
   MayGo floor w h (attempts.Made count) = Unit {0}
   MayGo floor w h attempts.Busy = Unit {0}
 
-  -- How it was let go: one that is blocked is parked, or, as it was poked meanwhile, is ready again; one that is over is done; and any other is ready.
+  -- How the worker stands that let it go. Of one that was blocked it has given the token back, or else has made it ready, as it was poked meanwhile; of one
+  -- that is over it has given the token back too; and any other it has made ready. Whether the process is parked then or retired isn't said.
   abbrev pub LetsGo : Held K → Worker K → Worker K → Attempt → Type 0
   LetsGo h w w' attempts.Blocked = (view w' ≡ lowering (parking (view w))) ⊎ (view w' ≡ leaving (looked (view w) h.process 3))
   LetsGo h w w' (attempts.Over over) = view w' ≡ lowering (parking (view w))
@@ -38,6 +41,13 @@ PassesInAttempt has_passed turns (attempts.Made count) = PassesBetween has_passe
 PassesInAttempt has_passed turns attempts.Busy = Unit {0}
 PassesInAttempt has_passed turns attempts.Blocked = Unit {0}
 PassesInAttempt has_passed turns (attempts.Over over) = Unit {0}
+
+-- How many turns a burst made.
+abbrev pub made_in : Burst → ℕ
+made_in (burst.Made first count) = count
+made_in (burst.Busy c word) = 0
+made_in (burst.Blocked block word) = 0
+made_in (burst.Over over) = 0
 
 -- Each turn that was made is one less that is left.
 abbrev pub Spends : List (ℕ × ℕ) → ℕ → List (ℕ × ℕ) → ℕ → Type 0

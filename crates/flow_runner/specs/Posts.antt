@@ -1,7 +1,6 @@
 -- What clauses say of the lines of a run, one for each worker, and of a worker's passes of them.
-use Rattle.std.specs.Prelude.{◌≡◌, ◌≢◌, ◌==◌, ℕ, ◌+◌, ◌<◌, List, [], ◌∷◌, ◌++◌, All, Option, Some, None, cond, get_or, length, map, nat_lt, sum_by}
+use Rattle.std.specs.Prelude.{◌≡◌, ◌≢◌, ◌==◌, ℕ, ◌+◌, ◌<◌, List, [], ◌∷◌, ◌++◌, All, Option, Some, None, cond, flat_map, get_or, length, map, nat_lt, sum_by}
 use Rattle.flow_floor.specs.declared.floor.Floor.{Floor}
-use Rattle.flow_floor.specs.declared.floor.Worker.{Worker}
 use Rattle.flow_floor.specs.Floors.{asked_of, readied_of, process_count, IsIdleAt}
 use Rattle.flow_runner.specs.declared.line.LinePass.{LinePass}
 use Rattle.flow_runner.specs.declared.lines.Post.{Post}
@@ -49,6 +48,10 @@ once_below n q = cond (nat_lt q n) 1 0
 -- By these passes each of the first n processes was pushed once more, onto whichever line, and no other.
 abbrev pub PushesEach : ℕ → List LinePass → List LinePass → Type 0
 PushesEach n ps ps' = (q : ℕ) → sum_by (λ p. times q (pushes_of p)) ps' ≡ sum_by (λ p. times q (pushes_of p)) ps + once_below n q
+
+-- The passes of all rows, one row after another.
+abbrev pub passes_in : List (List LinePass) → List LinePass
+passes_in rows = flat_map (λ (row : List LinePass). row) rows
 
 -- Each line is for so many processes.
 abbrev pub AreRoomFor : ℕ → List Post → Type 0

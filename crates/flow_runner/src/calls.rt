@@ -1,8 +1,8 @@
 //! The calls of the ready line.
 ghost use Rattle.flow_limits.specs.declared.TheConstants.{PROCESS_LIMIT, WORKER_LIMIT};
 ghost use Rattle.flow_runner.specs.Fair.{times};
-ghost use Rattle.flow_runner.specs.Lines.{IsPassAt, IsAlone, IsNewPass, AreAllPasses, pushes_of, pops_of, line_room, parts_of, WasLast, WasFirst, WasFull, WasEmpty};
-ghost use Rattle.std.specs.Prelude.{◌≡◌, ℕ, ◌+◌, ◌<◌, ◌≤◌, ◌++◌, ◌∷◌, [], All, IfOk, IsFalse, IsTrue, MatchOption, length, sum_by, vec_capacity};
+ghost use Rattle.flow_runner.specs.Lines.{IsPassAt, IsAlone, IsNewPass, AreAllPasses, pushes_of, pops_of, puts_of, takes_of, all_puts, all_takes, line_room, parts_of, KnowsTheSame, Leaves, LeaveInOrder, WasLast, WasFirst, WasFull, WasEmpty};
+ghost use Rattle.std.specs.Prelude.{◌≡◌, ℕ, List, ◌+◌, ◌<◌, ◌≤◌, ◌++◌, ◌∷◌, [], All, IfOk, IsFalse, IsNone, IsTrue, MatchOption, length, sum_by, vec_capacity};
 
 use crate::line::{Begin, Cut, Line, LinePass, Puts, Size, Takes};
 use crate::rest::Bell;
@@ -83,14 +83,16 @@ impl Line {
         Line::open_as::<Brand>(alloc, processes, workers)
     }
 
-    /// The number becomes the last. False only where this call's step found the line full, and then nothing changed.
+    /// The number becomes the last: its place is how many all passes had pushed before. False: nothing changed. To the only pass that says that the line is
+    /// full; to one of several it says nothing of the line, since the others may have done whatever makes it so.
     pub fn push<R: Wait>(&self, rt: &R, pass: &mut LinePass, process: u32) -> bool
         requires pass { IsPassAt self.now pass.old }
         requires range { process < line_room self.now }
         ensures pass { IsPassAt self.now pass.new × (parts_of pass.new ≡ parts_of pass.old) }
-        ensures pushed { IsTrue result → (pushes_of pass.new ≡ pushes_of pass.old ++ process ∷ []) × (pops_of pass.new ≡ pops_of pass.old) × WasLast self.now process pass.new }
+        ensures pushed { IsTrue result → (pushes_of pass.new ≡ pushes_of pass.old ++ process ∷ []) × (pops_of pass.new ≡ pops_of pass.old) × WasLast self.now process pass.old pass.new }
         ensures full { IsFalse result → (pushes_of pass.new ≡ pushes_of pass.old) × (pops_of pass.new ≡ pops_of pass.old) × WasFull self.now pass.old }
-        ensures alone { IsAlone pass.old → (IsFalse result → length (pushes_of pass.old) ≡ length (pops_of pass.old) + line_room self.now) × (IsTrue result → length (pushes_of pass.old) < length (pops_of pass.old) + line_room self.now) }
+        ensures kept { IsFalse result → KnowsTheSame pass.old pass.new }
+        ensures alone { IsAlone pass.old → (items : List ℕ) × Leaves pass.old items × (IsFalse result → length items ≡ line_room self.now) × (IsTrue result → length items < line_room self.now) }
     {
         match self.queue.push_as::<Puts, R>(rt, &mut pass.pass, process) {
             Ok(()) => true,
@@ -98,12 +100,14 @@ impl Line {
         }
     }
 
-    /// The first number, which leaves the line. `None` only where this call found the line empty at a moment.
+    /// The first number, which leaves the line: its place is how many all passes had popped before, and whoever pushed it did so at that same place. `None`:
+    /// nothing changed. To the only pass that says that the line is empty; to one of several it says nothing of the line, as a push that was refused.
     pub fn pop<R: Wait>(&self, rt: &R, pass: &mut LinePass) -> Option<u32>
         requires pass { IsPassAt self.now pass.old }
         ensures pass { IsPassAt self.now pass.new × (parts_of pass.new ≡ parts_of pass.old) }
-        ensures popped { MatchOption result ((pushes_of pass.new ≡ pushes_of pass.old) × (pops_of pass.new ≡ pops_of pass.old) × WasEmpty self.now pass.old) (λ q. (q < line_room self.now) × (pushes_of pass.new ≡ pushes_of pass.old) × (pops_of pass.new ≡ pops_of pass.old ++ q ∷ []) × WasFirst self.now q pass.old) }
-        ensures alone { IsAlone pass.old → MatchOption result (length (pushes_of pass.old) ≡ length (pops_of pass.old)) (λ _. length (pops_of pass.old) < length (pushes_of pass.old)) }
+        ensures popped { MatchOption result ((pushes_of pass.new ≡ pushes_of pass.old) × (pops_of pass.new ≡ pops_of pass.old) × WasEmpty self.now pass.old) (λ q. (q < line_room self.now) × (pushes_of pass.new ≡ pushes_of pass.old) × (pops_of pass.new ≡ pops_of pass.old ++ q ∷ []) × WasFirst self.now q pass.old pass.new) }
+        ensures kept { IsNone result → KnowsTheSame pass.old pass.new }
+        ensures alone { IsAlone pass.old → MatchOption result (Leaves pass.old []) (λ q. (items : List ℕ) × Leaves pass.old (q ∷ items)) }
     {
         self.queue.pop_as::<Takes, R>(rt, &mut pass.pass)
     }
@@ -112,8 +116,8 @@ impl Line {
     fn gather(&self, mut first: LinePass, mut passes: Vec<LinePass>) -> LinePass
         requires all { AreAllPasses self.now (passes.items ++ first ∷ []) }
         ensures pass { IsPassAt self.now result × IsAlone result }
-        ensures put { (q : ℕ) → times q (pushes_of result) ≡ sum_by (λ p. times q (pushes_of p)) (passes.items ++ first ∷ []) }
-        ensures taken { (q : ℕ) → times q (pops_of result) ≡ sum_by (λ p. times q (pops_of p)) (passes.items ++ first ∷ []) }
+        ensures put { puts_of result ≡ all_puts (passes.items ++ first ∷ []) }
+        ensures taken { takes_of result ≡ all_takes (passes.items ++ first ∷ []) }
     {
         while let Some(LinePass { pass }) = passes.pop() {
             self.queue.absorb::<Cut>(&mut first.pass, pass);
@@ -124,7 +128,7 @@ impl Line {
     /// Pops until the line is empty. The pass is the only one.
     fn drain<R: Wait>(self, rt: &R, mut only: LinePass) -> Vec<u32>
         requires pass { IsPassAt self only × IsAlone only }
-        ensures { (q : ℕ) → times q (pushes_of only) ≡ times q (pops_of only) + times q result.items }
+        ensures { LeaveInOrder (only ∷ []) result.items }
     {
         let Line {
             queue,
@@ -142,10 +146,12 @@ impl Line {
         unreachable!()
     }
 
-    /// Ends the line, and gives what is left in it, in order: of each process what all passes pushed is what they popped and this.
+    /// Ends the line, and gives what is left in it. What all passes pushed, in the order of the places, is what they popped, in that order too, and behind it
+    /// what is left: the first that was pushed was the first that was popped, and so on, whoever did either.
     pub fn close<R: Wait>(self, rt: &R, mut passes: Vec<LinePass>) -> Vec<u32>
         requires all { AreAllPasses self passes.items }
-        ensures { (q : ℕ) → sum_by (λ p. times q (pushes_of p)) passes.items ≡ sum_by (λ p. times q (pops_of p)) passes.items + times q result.items }
+        ensures each { (q : ℕ) → sum_by (λ p. times q (pushes_of p)) passes.items ≡ sum_by (λ p. times q (pops_of p)) passes.items + times q result.items }
+        ensures order { LeaveInOrder passes.items result.items }
     {
         let Some(first) = passes.pop() else {
             unreachable!()

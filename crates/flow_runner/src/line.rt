@@ -9,12 +9,12 @@ use std::collections::LinkedList;
 use std::marker::{Brand, PhantomData};
 
 /// What a pass knows: of its line how many processes there are, its parts of the right to know the whole, of which all passes together have
-/// `WORKER_LIMIT`, and what it pushed and popped. No value of it is made.
+/// `WORKER_LIMIT`, and what it pushed and popped, each with its place among what all passes pushed, and popped. No value of it is made.
 pub struct Hand {
     pub most: u64,
     pub parts: u64,
-    pub put: LinkedList<u32>,
-    pub taken: LinkedList<u32>,
+    pub put: LinkedList<(u64, u32)>,
+    pub taken: LinkedList<(u64, u32)>,
 }
 
 /// The rule of the line.
@@ -23,9 +23,9 @@ pub struct Fairly;
 impl Protocol<u32, Hand> for Fairly {
     ghost use Rattle.std.specs.Prelude.{[]};
     ghost use Rattle.flow_limits.specs.declared.TheConstants.{WORKER_LIMIT};
-    ghost use Rattle.flow_runner.specs.Fair.{Fair, hand};
+    ghost use Rattle.flow_runner.specs.Fair.{IsFair, hand};
 
-    ghost holds = { Fair };
+    ghost holds = { IsFair };
 
     ghost first = { hand 0 WORKER_LIMIT [] [] };
 }
@@ -68,10 +68,11 @@ impl Split<Hand> for Cut {
 }
 
 impl Join<Hand> for Cut {
-    ghost use Rattle.std.specs.Prelude.{◌+◌, ◌++◌, []};
+    ghost use Rattle.std.specs.Prelude.{◌+◌, []};
+    ghost use Rattle.flow_floor.specs.Made.{merge};
     ghost use Rattle.flow_runner.specs.Fair.{hand};
 
-    ghost both = { λ v w. hand v.most (v.parts + w.parts) (v.put ++ w.put) (v.taken ++ w.taken) };
+    ghost both = { λ v w. hand v.most (v.parts + w.parts) (merge w.put v.put) (merge w.taken v.taken) };
 
     ghost spent = { hand 0 0 [] [] };
 }
@@ -85,9 +86,9 @@ impl Outcome<u32, Hand> for Puts {
 }
 
 impl Lesson<u32, Hand> for Puts {
-    ghost use Rattle.flow_runner.specs.Fair.{Was};
+    ghost use Rattle.flow_runner.specs.Fair.{WasWith};
 
-    ghost fact = { Was };
+    ghost fact = { WasWith };
 }
 
 pub(crate) struct Takes;
@@ -99,9 +100,9 @@ impl Outcome<u32, Hand> for Takes {
 }
 
 impl Lesson<u32, Hand> for Takes {
-    ghost use Rattle.flow_runner.specs.Fair.{Was};
+    ghost use Rattle.flow_runner.specs.Fair.{WasWith};
 
-    ghost fact = { Was };
+    ghost fact = { WasWith };
 }
 
 /// What one worker knows of a line: what it pushed and popped there. It has no bytes.

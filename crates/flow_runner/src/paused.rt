@@ -19,8 +19,9 @@ use std::alloc::Global;
 use std::sync::Wait;
 use std::thread::Threads;
 
-/// Runs a network by so many workers, each of which makes so many turns at most, and tells who they were: all turns of the call are theirs. Where they weren't all made, no process but a starved one will ever have
-/// a turn again. The net may be run on. Where they were, a process whose last turn ended it may not have been told its end yet: the next run tells it.
+/// Runs a network by so many workers, each of which makes so many turns at most, and tells who they were: all turns of the call are theirs. Where they weren't
+/// all made, and no process is listed as starved, no process will ever have a turn again; where some are listed, the contract says nothing of the others. The net
+/// may be run on. Where all turns were made, a process whose last turn ended it may not have been told its end yet: the next run tells it.
 pub fn run_for<K: Component + Send, G: Gate + Sync, R: Threads + Wait + Sync>(
     rt: &R,
     alloc: Global,

@@ -3,7 +3,7 @@ ghost use Rattle.flow_floor.specs.Floors.{woken_of};
 ghost use Rattle.flow_runner.specs.Lines.{IsPassAt, line_room, pops_of, pushes_of};
 ghost use Rattle.flow_runner.specs.Serving.{names_of, KeepsPass, MayStandIn};
 ghost use Rattle.flow_runner.specs.declared.readied.TheConstants.{PUSHED_AFTER};
-ghost use Rattle.std.specs.Prelude.{◌≡◌, ◌+◌, ◌<◌, ◌≤◌, ◌++◌, [], ◌∷◌, All};
+ghost use Rattle.std.specs.Prelude.{◌≡◌, ◌+◌, ◌<◌, ◌≤◌, ◌++◌, [], ◌∷◌, All, ◌⊎◌};
 
 use crate::line::{Line, LinePass};
 use arrayvec::ArrayVec;
@@ -128,6 +128,7 @@ pub(crate) fn keep_woken<K: Component, R: Wait>(
     ensures popped { pops_of pass.new ≡ pops_of pass.old }
     ensures below { MayStandIn line.now (names_of unpushed.new) }
     ensures due { PUSHED_AFTER ≤ unpushed.old.turns + made → names_of unpushed.new ≡ [] }
+    ensures counts { (names_of unpushed.new ≡ []) ⊎ (unpushed.new.turns ≡ unpushed.old.turns + made) }
 {
     unpushed.turns = unpushed.turns.saturating_add(made);
     if unpushed

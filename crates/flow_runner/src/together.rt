@@ -2,9 +2,9 @@
 ghost use Rattle.flow_floor.specs.Floors.{HasReadZero, HasSameShare, IsCrewOf, IsIdleAt, IsNewWorker, process_count, turns_of};
 ghost use Rattle.flow_limits.specs.declared.TheConstants.{PROCESS_LIMIT, WORKER_LIMIT};
 ghost use Rattle.flow_runner.specs.Lines.{parts_of};
-ghost use Rattle.flow_runner.specs.Posts.{posts_of, ArePassesAt, AreLinesFor, AreRoomFor, IsAtPosts, IsPosted, PushesEach, Watches};
+ghost use Rattle.flow_runner.specs.Posts.{posts_of, ArePassesAt, AreLinesFor, AreRoomFor, IsAtPosts, IsPosted, PushesEach, Watches, passes_in};
 ghost use Rattle.flow_runner.specs.Serving.{HasDone, HasServed, workers_at};
-ghost use Rattle.std.specs.Prelude.{◌≡◌, ◌+◌, ◌<◌, ◌≤◌, ℕ, All, IfErr, IfOk, IfSome, Option, [], length, vec_capacity};
+ghost use Rattle.std.specs.Prelude.{◌≡◌, ◌+◌, ◌<◌, ◌≤◌, ℕ, All, IfErr, IfOk, IfSome, Option, [], length, map, vec_capacity};
 
 use crate::line::{Line, LinePass};
 use crate::lines::{Lines, Post};
@@ -228,6 +228,7 @@ fn filled<R: Wait>(
     requires last { 1 ≤ length rows.items }
     ensures rows { All (λ row. ArePassesAt (posts_of lines.now) row.items) result.items }
     ensures count { length result.items ≡ length rows.items }
+    ensures pushed { PushesEach processes (passes_in (map (λ row. row.items) rows.items)) (passes_in (map (λ row. row.items) result.items)) }
 {
     let Some(mut last) = rows.pop() else {
         unreachable!()

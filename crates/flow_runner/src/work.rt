@@ -2,10 +2,11 @@
 ghost use Rattle.flow_floor.specs.Bursts.{IsOneAtMost, PassesInBurst};
 ghost use Rattle.flow_floor.specs.Floors.{BurstsAt, IsHeldAt, IsIdleAt, IsSameWorker, IsWiredAt, HasSameShare, Readies, asked_of, process_count, turns_of};
 ghost use Rattle.flow_machine.specs.Thoughts.{IsSet, PassesFirst};
-ghost use Rattle.flow_runner.specs.Attempts.{Adds, LetsGo, MayGo, PassesInAttempt, Spends};
+ghost use Rattle.flow_runner.specs.Attempts.{Adds, LetsGo, MayGo, PassesInAttempt, Spends, made_in};
 ghost use Rattle.flow_runner.specs.Lines.{IsPassAt};
 ghost use Rattle.flow_runner.specs.Serving.{names_of, IsLineFor, MayStandIn, Pushes, PushesBut};
-ghost use Rattle.std.specs.Prelude.{◌≡◌, ◌<◌, ◌≤◌, ℕ, ◌++◌, [], ◌∷◌};
+ghost use Rattle.flow_runner.specs.declared.readied.TheConstants.{PUSHED_AFTER};
+ghost use Rattle.std.specs.Prelude.{◌≡◌, ◌+◌, ◌<◌, ◌≤◌, ℕ, ◌++◌, [], ◌∷◌, ◌⊎◌};
 
 use crate::line::{Line, LinePass};
 use crate::readied::{Unpushed, keep_woken, push_all, push_woken};
@@ -101,6 +102,8 @@ fn make_burst<K: Component, G: Gate, R: Wait>(
     ensures same { IsSameWorker worker.old worker.new }
     ensures pushes { PushesBut line.now worker.old pass.old (names_of unpushed.old) worker.new pass.new (names_of unpushed.new) }
     ensures left { MayStandIn line.now (names_of unpushed.new) }
+    ensures due { PUSHED_AFTER ≤ unpushed.old.turns + made_in result → names_of unpushed.new ≡ [] }
+    ensures counts { (names_of unpushed.new ≡ []) ⊎ (unpushed.new.turns ≡ unpushed.old.turns + made_in result) }
 {
     let burst = whole_or_burst(floor, worker, held, gate, most);
     let made = match &burst {

@@ -6,3 +6,4 @@ pub mod EntryReaders
 pub mod Spelling
 pub mod FileReader
 pub mod Loops
+pub mod Counting

@@ -2,3 +2,4 @@ pub mod Files
 pub mod Fields
 pub mod Faults
 pub mod Reading
+pub mod Counts

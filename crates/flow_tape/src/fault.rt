@@ -13,3 +13,12 @@ pub enum TapeStop {
     Fault(TapeFault),
     NoMemory,
 }
+
+/// Why bytes don't give as many tapes as are wanted.
+#[derive(Clone, Copy, Debug, PartialEq, Eq)]
+pub enum CountStop {
+    Fault(TapeFault),
+    /// They are the file of so many tapes, which is another number.
+    Count(u32),
+    NoMemory,
+}

@@ -18,3 +18,4 @@ pub mod Worked
 pub mod LonePlan
 pub mod LoneRun
 pub mod LoneMet
+pub mod Pausing

@@ -1,11 +1,10 @@
 -- The calls of a caller with a kind of its own: each meets the premises of completeness and comes to its end.
 use Rattle.flow_limits.specs.declared.TheConstants.{FILE_LIMIT}
-use Rattle.flow_tape.specs.declared.TheConstants.{TAPE_FILE_LIMIT}
-use Rattle.std.proofs.Common.{◌≡◌, ℕ, zero, suc, ◌<◌, ◌≤◌, List, [], ◌∷◌, ◌++◌, ◌∙◌, ap, map, length, Some, None, refl, sym, subst, inl, inr, arith, slice_get}
+use Rattle.std.proofs.Common.{◌≡◌, ℕ, ◌<◌, ◌≤◌, List, [], ◌∷◌, ◌++◌, ◌∙◌, ap, map, length, Some, None, refl, sym, subst, inl, inr, arith, slice_get}
 use Rattle.std.specs.Prelude.{codes, Option, String, slice_index}
 use Rattle.std.specs.List.{All}
 use Rattle.std.specs.declared.alloc.Global.{Global}
-use Rattle.flow_text.specs.Edge.{Outside, Name, Logged, after_write, begun}
+use Rattle.flow_text.specs.Edge.{Outside, Name, Logged, begun}
 use Rattle.flow_own.specs.declared.tape.Entry.{Entry}
 use Rattle.flow_own.specs.Recorded.{IsEntryWritable, IsTapeWritable}
 use Rattle.flow_tape.specs.Files.{IsWritable as IsTapesWritable}
@@ -13,7 +12,7 @@ use Rattle.flow_tape.specs.Faults.{IsFileOf as IsFileOfTapes, HasOneList}
 use Rattle.flow_plan.specs.declared.plan.Process.{Process}
 use Rattle.flow_plan.specs.Network.{Network}
 use Rattle.flow_words.specs.declared.argument.Argument.TheVariants as arguments
-use Rattle.flow_words.specs.Words.{AskedRun, Run, Replay, command_of, run_of}
+use Rattle.flow_words.specs.Words.{AskedReport, AskedRun, Run, Replay, command_of, run_of}
 use Rattle.flow_words.proofs.Laws.{asks}
 use Rattle.flow_parse.specs.declared.value.NetText.{NetText}
 use Rattle.flow_model.specs.Laws.{KeepsPrefixes}
@@ -30,18 +29,18 @@ use Rattle.flow_offer.specs.Processes.{place_of}
 use Rattle.flow_offer.specs.Shares.{FindsNoPart, earlier}
 use Rattle.flow_report.specs.Text.{report_text}
 use Rattle.flow_catalogue.specs.Std.{std_rules}
-use Rattle.flow_load.specs.Step.{Filled, whole, IsRead}
+use Rattle.flow_load.specs.Step.{Filled, whole}
 use Rattle.flow_load.specs.Networks.{Holds}
-use Rattle.flow_load.specs.Components.{AreComponents}
-use Rattle.flow_load.specs.Offers.{AnyKind, Offer, Recorded, Taped, net_rules, parts_of}
+use Rattle.flow_load.specs.Offers.{AnyKind, Recorded, Taped, net_rules, parts_of}
 use Rattle.flow_load.specs.Many.{replaced_all}
-use Rattle.flow_load.specs.Runs.{kept_files}
+use Rattle.flow_load.specs.Runs.{kept_files, report_file}
 use Rattle.flow_load.specs.Reads.{Asks, IsFile, IsJournalFile, IsTapesFile, IsReady}
 use Rattle.flow_load.specs.Valid.{AreValid, BeginsJournal, IsLimitAt, IsValidReplay}
 use Rattle.flow_load.specs.declared.status.Status.TheVariants.{Failed}
+use Rattle.flow_cli.specs.After.{after_print, outputs_at, printed_text, remarked_text}
 use Rattle.flow_cli.specs.Top.{Call}
 use Rattle.flow_witness.specs.Complete.{CanMeet, shelf_with}
-use Rattle.flow_witness.specs.Lone.{PremisesWithPartsAreMet, lone, lone_bytes, lone_file, lone_files, lone_journal, lone_journal_bytes, lone_journal_file, lone_kind, lone_offer, lone_process, lone_tape, lone_tape_bytes, lone_tape_file}
+use Rattle.flow_witness.specs.Lone.{PremisesWithPartsAreMet, lone, lone_bytes, lone_file, lone_files, lone_journal, lone_journal_bytes, lone_journal_file, lone_offer, lone_process, lone_tape, lone_tape_bytes, lone_tape_file}
 use Rattle.flow_witness.proofs.Wired.{at_one, at_three, none_there}
 use Rattle.flow_witness.proofs.Premises.{asked_is, call_valid, net_argument, net_line, no_replay, one_schedule, tapes_of}
 use Rattle.flow_witness.proofs.LonePlan.{are_components, holds, lone_value, offered, only-component, only_plan, own_kinds, playing, process_is, valid}
@@ -174,7 +173,7 @@ before = shelf_with lone_files
 abbrev after : Name → List Filled → Outside
 after name read = record before { open_name = Some name; left = Some []; opened = map whole read }
 
--- The output before this text was printed.
+-- The output before these texts were printed.
 abbrev blank : Outside
 blank = record before { taken = Some []; files = None; created = begun [] ∷ [] }
 
@@ -189,11 +188,11 @@ tapes-asked =
 abbrev left : Recorded
 left = record { journal = lone_journal; tapes = lone_tape ∷ [] }
 
-abbrev call_of : List (String Global) → ℕ → Outside → Call
-call_of words parts shelf = record {
+abbrev call_of : List (String Global) → ℕ → Outside → List ℕ → List ℕ → Call
+call_of words parts shelf text remark = record {
   work = record { words = words; own = lone_offer parts; before = before; after = shelf; recorded = left };
-  out = blank;
-  out_after = after_write blank (report_text lone_report);
+  out = outputs_at blank blank;
+  out_after = after_print (outputs_at blank blank) text remark;
   status = Failed;
 }
 
@@ -208,13 +207,25 @@ ready name between = record {
   reads = refl;
 }
 
--- The run with these names for its journal and its tapes, where there are such, and so many workers.
-abbrev run_with : Option Name → Option Name → ℕ → AskedRun
-run_with kept tapes workers = record { net = codes "net"; journal = kept; tapes = tapes; workers = workers }
+-- The run with these names for its journal and its tapes, where there are such, so many workers, and a report that is told so.
+abbrev run_with : Option Name → Option Name → ℕ → AskedReport → AskedRun
+run_with kept tapes workers report = record { net = codes "net"; journal = kept; tapes = tapes; workers = workers; report = report }
+
+-- The files that a run writes: none of a writer.
+abbrev written_by_run : AskedRun → List Filled
+written_by_run asked = kept_files asked left ++ report_file asked.report.file (report_text lone_report)
 
 -- The shelf after a run.
 abbrev after_run : AskedRun → Outside
-after_run asked = record (after (codes "net") (lone_file ∷ [])) { files = Some (replaced_all (kept_files asked left) lone_files); created = map whole (kept_files asked left) }
+after_run asked = record (after (codes "net") (lone_file ∷ [])) { files = Some (replaced_all (written_by_run asked) lone_files); created = map whole (written_by_run asked) }
+
+-- The call of a run.
+abbrev run_call : List (String Global) → AskedRun → Call
+run_call words asked = call_of words 1 (after_run asked) (printed_text asked.report lone_report) (remarked_text asked.report lone_report)
+
+-- The call of a replay.
+abbrev replay_call : List (String Global) → Call
+replay_call words = call_of words 0 (after (codes "t") replayed) (report_text lone_report) []
 
 module _ (starts : StartsPlans net_rules) (fits : FitsPlayed std_rules) (prefixes : KeepsPrefixes net_rules) (single : HasOneJournal) (lists : HasOneList) where
   well : StartsWell net_rules lone (playing ∷ [])
@@ -236,13 +247,13 @@ module _ (starts : StartsPlans net_rules) (fits : FitsPlayed std_rules) (prefixe
 
   replays : CanMeet (lone_offer 0) lone_files (Replay (codes "net") (codes "j") (Some (codes "t"))) replayed
   replays words asks = record {
-    call = call_of words 0 (after (codes "t") replayed);
+    call = replay_call words;
     words_are = refl;
     own_is = refl;
     shelf = refl;
     opened = refl;
-    faults = record { reads = λ rose. omega (arith, rose); writes = λ rose. omega (arith, rose); prints = λ rose. omega (arith, rose) };
-    valid = call_valid (lone_offer 0) words (Replay (codes "net") (codes "j") (Some (codes "t"))) replayed (call_of words 0 (after (codes "t") replayed)).work refl refl refl refl asks refl (replayed_valid single lists words asks);
+    faults = record { reads = λ rose. omega (arith, rose); writes = λ rose. omega (arith, rose); prints = λ rose. omega (arith, rose); remarks = λ rose. omega (arith, rose) };
+    valid = call_valid (lone_offer 0) words (Replay (codes "net") (codes "j") (Some (codes "t"))) replayed (replay_call words).work refl refl refl refl asks refl (replayed_valid single lists words asks);
     ends = inr (record {
       text = report_text lone_report;
       says = inr (inl (record {
@@ -272,17 +283,17 @@ module _ (starts : StartsPlans net_rules) (fits : FitsPlayed std_rules) (prefixe
     });
   }
 
-  runs : (kept tapes : Option Name) (workers : ℕ) → CanMeet (lone_offer 1) lone_files (run_of (record { net = codes "net"; journal = kept; tapes = tapes; workers = workers })) (lone_file ∷ [])
-  runs kept tapes workers words asks = record {
-    call = call_of words 1 (after_run (run_with kept tapes workers));
+  runs : (kept tapes : Option Name) (workers : ℕ) (report : AskedReport) → CanMeet (lone_offer 1) lone_files (run_of (run_with kept tapes workers report)) (lone_file ∷ [])
+  runs kept tapes workers report words asks = record {
+    call = run_call words (run_with kept tapes workers report);
     words_are = refl;
     own_is = refl;
     shelf = refl;
     opened = refl;
-    faults = record { reads = λ rose. omega (arith, rose); writes = λ rose. omega (arith, rose); prints = λ rose. omega (arith, rose) };
-    valid = call_valid (lone_offer 1) words (Run (codes "net") kept tapes workers) (lone_file ∷ []) (call_of words 1 (after_run (run_with kept tapes workers))).work refl refl refl refl asks refl (ran_valid words (run_with kept tapes workers) asks);
+    faults = record { reads = λ rose. omega (arith, rose); writes = λ rose. omega (arith, rose); prints = λ rose. omega (arith, rose); remarks = λ rose. omega (arith, rose) };
+    valid = call_valid (lone_offer 1) words (Run (codes "net") kept tapes workers report) (lone_file ∷ []) (run_call words (run_with kept tapes workers report)).work refl refl refl refl asks refl (ran_valid words (run_with kept tapes workers report) asks);
     ends = inl (
-      run_with kept tapes workers,
+      run_with kept tapes workers report,
       asks,
       record {
         report = lone_report;

@@ -1,13 +1,11 @@
 -- The network of one process of the caller's own: the value that its file spells, its plan, which is valid and the only one, and its component, which is the only one too.
-use Rattle.std.proofs.Common.{◌≡◌, ◌⊎◌, ℕ, ◌<◌, ◌≤◌, Bool, true, false, List, [], ◌∷◌, length, map, None, Some, Ok, refl, sym, ◌∙◌, ap, subst, arith, inr, slice_get}
+use Rattle.std.proofs.Common.{◌≡◌, ◌⊎◌, ℕ, ◌<◌, true, false, List, [], ◌∷◌, length, map, None, Some, Ok, refl, sym, ◌∙◌, ap, subst, arith, inr, slice_get}
 use Rattle.std.specs.Prelude.{codes}
 use Rattle.std.specs.declared.result.Result.{Result}
 use Rattle.std.specs.List.{list_any}
 use Rattle.std.specs.Str.{bytes_eq}
 use Rattle.std.specs.Str.Lines.{lines}
-use Rattle.flow_limits.specs.declared.TheConstants.{TEXT_LIMIT}
 use Rattle.flow_plan.specs.declared.kind.KindSpec.{KindSpec}
-use Rattle.flow_plan.specs.declared.kind.PortRef.{PortRef}
 use Rattle.flow_plan.specs.declared.kind.PortClass.TheVariants.{Stream}
 use Rattle.flow_plan.specs.declared.plan.Process.{Process}
 use Rattle.flow_plan.specs.declared.plan.PortRow.{PortRow}
@@ -25,18 +23,18 @@ use Rattle.flow_flat.specs.declared.fault.ExpandFault.{ExpandFault}
 use Rattle.flow_flat.specs.declared.fault.ExpandFault.TheVariants as faults
 use Rattle.flow_flat.specs.Names.{text_ports}
 use Rattle.flow_flat.specs.Faults.{PortPasses, port_test, text_ends}
-use Rattle.flow_flat.specs.Texts.{RecursionPasses, InstancePasses, MeaningPasses, fails_if, instance_test, deep_instances, all_instances, all_statements, TextComesTo}
+use Rattle.flow_flat.specs.Texts.{RecursionPasses, InstancePasses, MeaningPasses, fails_if, instance_test, deep_instances, all_instances, all_statements}
 use Rattle.flow_flat.specs.Firsts.{AllPass}
 use Rattle.flow_flat.proofs.Files.{file_once}
 use Rattle.flow_own.specs.Mixed.{Other, Own}
-use Rattle.flow_catalogue.specs.declared.standard.Std.{Std}
 use Rattle.flow_catalogue.specs.declared.table.StdKind.{StdKind}
 use Rattle.flow_catalogue.specs.declared.table.StdKind.TheVariants as kinds
 use Rattle.flow_catalogue.specs.Kinds.{name_of}
+use Rattle.flow_catalogue.proofs.OptionTexts.{has-options}
 use Rattle.flow_offer.specs.Fits.{player_at}
 use Rattle.flow_offer.specs.Kinds.{AreOwnKinds, table_with}
 use Rattle.flow_offer.specs.Processes.{IsOfferedPlan, IsOwnAt}
-use Rattle.flow_load.specs.Components.{AreComponents, IsComponent, IsPlayedComponent}
+use Rattle.flow_load.specs.Components.{AreComponents, IsPlayedComponent}
 use Rattle.flow_load.specs.Networks.{Holds}
 use Rattle.flow_load.specs.Offers.{AnyKind, Taped}
 use Rattle.flow_load.proofs.MadeLines.{Saying, header, gives_kinded, lead}
@@ -217,7 +215,7 @@ is_own = record {
   inputs = refl;
   outputs = refl;
   needed = λ o h. none_there o true h;
-  no_options = refl;
+  options = has-options lone 0 lone_process discard_ports lone_kind.inputs valid refl refl refl;
 }
 
 -- The component: the player of the tape.

@@ -1,5 +1,5 @@
 -- The turn of the network of one process of the caller's own, by its player, and what is told of the state behind it: the process has failed.
-use Rattle.std.proofs.Common.{◌≡◌, ℕ, List, [], ◌∷◌, Some, None, refl, sym, ◌∙◌, ap, subst, inr, slice_get}
+use Rattle.std.proofs.Common.{◌≡◌, [], ◌∷◌, Some, None, refl, sym, ap, inr, slice_get}
 use Rattle.flow_component.specs.declared.Answer.{Answer}
 use Rattle.flow_component.specs.declared.Answer.TheVariants as answers
 use Rattle.flow_component.specs.declared.Fail.TheVariants as fails
@@ -13,7 +13,7 @@ use Rattle.flow_model.specs.States.{Process, State}
 use Rattle.flow_model.specs.Events.{Starts, event_of, looks}
 use Rattle.flow_model.specs.Turns.{Turn, process_after}
 use Rattle.flow_model.specs.Works.{Work, worked, past_worked}
-use Rattle.flow_model.specs.Schedules.{Journal, Leads, no_turns}
+use Rattle.flow_model.specs.Schedules.{Leads, no_turns}
 use Rattle.flow_model.specs.Verdicts.{HasNoTurn, IsFailed, Quiet}
 use Rattle.flow_model.specs.Robin.{ExactTurn, Pass, RoundRobin}
 use Rattle.flow_model.specs.Plans.{process_at_start, start_of}

@@ -202,7 +202,7 @@ net_line = inr (codes "net" ∷ [], [], (refl, refl), refl, refl)
 pub replay_asked : command_of (codes "--replay" ∷ codes "j" ∷ codes "net" ∷ []) ≡ Some (Replay (codes "net") (codes "j") None)
 replay_asked = asks ((arguments.Replay, codes "j") ∷ net_argument ∷ []) (codes "--replay" ∷ codes "j" ∷ codes "net" ∷ []) (inr (codes "--replay" ∷ codes "j" ∷ [], codes "net" ∷ [], inr (refl, refl), net_line, refl)) (refl, (refl, tt))
 
-pub run_asked : command_of (codes "net" ∷ []) ≡ Some (Run (codes "net") None None 0)
+pub run_asked : command_of (codes "net" ∷ []) ≡ Some (Run (codes "net") None None 0 (record { file = None; quiet = false; brief = false }))
 run_asked = asks (net_argument ∷ []) (codes "net" ∷ []) net_line (refl, tt)
 
 pub check_asked : command_of (codes "--check" ∷ codes "net" ∷ []) ≡ Some (Check (codes "net"))

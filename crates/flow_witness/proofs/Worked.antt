@@ -4,11 +4,11 @@ use Rattle.std.proofs.Common.{◌≡◌, ℕ, true, false, List, [], ◌∷◌, 
 use mathlib.Core.List.{append-nil}
 use Rattle.std.specs.Prelude.{codes, IsTrue, Option, String}
 use Rattle.std.specs.declared.alloc.Global.{Global}
-use Rattle.flow_text.specs.Edge.{Outside, Name, after_write, begun}
+use Rattle.flow_text.specs.Edge.{Outside, Name, begun}
 use Rattle.flow_plan.specs.declared.kind.KindSpec.{KindSpec}
 use Rattle.flow_plan.specs.declared.plan.Process.{Process}
 use Rattle.flow_net.specs.Over.{IsOver}
-use Rattle.flow_words.specs.Words.{AskedRun, Run, Check, Judge, Replay, run_of}
+use Rattle.flow_words.specs.Words.{AskedReport, AskedRun, Run, Check, Judge, Replay, run_of}
 use Rattle.flow_parse.specs.Canonical.{canonical}
 use Rattle.flow_model.specs.Laws.{KeepsPrefixes}
 use Rattle.flow_model.specs.States.{Process as StateProcess}
@@ -36,7 +36,8 @@ use Rattle.flow_load.specs.Step.{Filled, whole, IsRead}
 use Rattle.flow_load.specs.Offers.{AnyKind, Recorded, Taped, net_rules}
 use Rattle.flow_load.specs.Components.{AreComponents, IsComponent, IsPlayedComponent}
 use Rattle.flow_load.specs.Many.{replaced_all}
-use Rattle.flow_load.specs.Runs.{IsPlayedOut, kept_files}
+use Rattle.flow_load.specs.Runs.{IsPlayedOut, kept_files, report_file}
+use Rattle.flow_cli.specs.After.{after_print, outputs_at, printed_text, remarked_text}
 use Rattle.flow_load.specs.Reads.{IsFile, IsJournalFile, IsReady}
 use Rattle.flow_cli.specs.Top.{Call, answer}
 use Rattle.flow_load.proofs.NoKinds.{none-own}
@@ -172,11 +173,11 @@ after name read = record shelf_before { open_name = Some name; left = Some []; o
 abbrev blank : Outside
 blank = record shelf_before { taken = Some []; files = None; created = begun [] ∷ [] }
 
-abbrev call_of : List (String Global) → Outside → Journal → List ℕ → Call
-call_of words shelf journal text = record {
+abbrev call_of : List (String Global) → Outside → Journal → List ℕ → List ℕ → Call
+call_of words shelf journal text remark = record {
   work = record { words = words; own = []; before = shelf_before; after = shelf; recorded = record { journal = journal; tapes = [] } };
-  out = blank;
-  out_after = after_write blank text;
+  out = outputs_at blank blank;
+  out_after = after_print (outputs_at blank blank) text remark;
   status = Finished;
 }
 
@@ -194,17 +195,21 @@ ready between = record {
   reads = refl;
 }
 
--- The run with these names for its journal and its tapes, where there are such, and so many workers.
-abbrev run_with : Option Name → Option Name → ℕ → AskedRun
-run_with kept tapes workers = record { net = codes "net"; journal = kept; tapes = tapes; workers = workers }
+-- The run with these names for its journal and its tapes, where there are such, so many workers, and a report that is told so.
+abbrev run_with : Option Name → Option Name → ℕ → AskedReport → AskedRun
+run_with kept tapes workers report = record { net = codes "net"; journal = kept; tapes = tapes; workers = workers; report = report }
 
 -- What it leaves.
 abbrev left : Recorded
 left = record { journal = balance_journal; tapes = [] }
 
+-- The files that a run writes: none of a writer.
+abbrev written_by_run : AskedRun → List Filled
+written_by_run asked = kept_files asked left ++ report_file asked.report.file (report_text balance_report)
+
 -- The shelf after a run.
 abbrev after_run : AskedRun → Outside
-after_run asked = record (after (codes "x") ran) { files = Some (replaced_all (kept_files asked left) held_files); created = map whole (kept_files asked left) }
+after_run asked = record (after (codes "x") ran) { files = Some (replaced_all (written_by_run asked) held_files); created = map whole (written_by_run asked) }
 
 -- No tapes have a file.
 no_tapes : IsTapesWritable []
@@ -216,13 +221,13 @@ undetermined is = is.no_balance 1 balancer refl refl
 
 checks : CanMeet [] held_files (Check (codes "net")) (network_file ∷ [])
 checks words asks = record {
-  call = call_of words (after (codes "net") (network_file ∷ [])) none_made (canonical balance_value);
+  call = call_of words (after (codes "net") (network_file ∷ [])) none_made (canonical balance_value) [];
   words_are = refl;
   own_is = refl;
   shelf = refl;
   opened = refl;
-  faults = record { reads = λ rose. omega (arith, rose); writes = λ rose. omega (arith, rose); prints = λ rose. omega (arith, rose) };
-  valid = call_valid [] words (Check (codes "net")) (network_file ∷ []) (call_of words (after (codes "net") (network_file ∷ [])) none_made (canonical balance_value)).work refl refl refl refl asks refl (check_valid words (Check (codes "net")) asks refl);
+  faults = record { reads = λ rose. omega (arith, rose); writes = λ rose. omega (arith, rose); prints = λ rose. omega (arith, rose); remarks = λ rose. omega (arith, rose) };
+  valid = call_valid [] words (Check (codes "net")) (network_file ∷ []) (call_of words (after (codes "net") (network_file ∷ [])) none_made (canonical balance_value) []).work refl refl refl refl asks refl (check_valid words (Check (codes "net")) asks refl);
   ends = inr (record {
     text = canonical balance_value;
     says = inl (record { name = codes "net"; asks = asks; value = balance_value; checked = record { net = network_bytes; plan = balance; file = net_is; shelf = refl; nothing = ((refl, refl), refl) }; text_is = refl; status_is = refl });
@@ -232,13 +237,13 @@ checks words asks = record {
 
 judges : CanMeet [] held_files (Judge (codes "net")) (network_file ∷ [])
 judges words asks = record {
-  call = call_of words (after (codes "net") (network_file ∷ [])) none_made (answer false);
+  call = call_of words (after (codes "net") (network_file ∷ [])) none_made (answer false) [];
   words_are = refl;
   own_is = refl;
   shelf = refl;
   opened = refl;
-  faults = record { reads = λ rose. omega (arith, rose); writes = λ rose. omega (arith, rose); prints = λ rose. omega (arith, rose) };
-  valid = call_valid [] words (Judge (codes "net")) (network_file ∷ []) (call_of words (after (codes "net") (network_file ∷ [])) none_made (answer false)).work refl refl refl refl asks refl (check_valid words (Judge (codes "net")) asks refl);
+  faults = record { reads = λ rose. omega (arith, rose); writes = λ rose. omega (arith, rose); prints = λ rose. omega (arith, rose); remarks = λ rose. omega (arith, rose) };
+  valid = call_valid [] words (Judge (codes "net")) (network_file ∷ []) (call_of words (after (codes "net") (network_file ∷ [])) none_made (answer false) []).work refl refl refl refl asks refl (check_valid words (Judge (codes "net")) asks refl);
   ends = inr (record {
     text = answer false;
     says = inr (inr (inr (inl (record { name = codes "net"; asks = asks; value = balance_value; checked = record { net = network_bytes; plan = balance; file = net_is; shelf = refl; nothing = ((refl, refl), refl) }; text_is = inr (undetermined, refl); status_is = refl }))));
@@ -263,13 +268,13 @@ module _ (starts : StartsPlans std_rules) (prefixes : KeepsPrefixes std_rules) (
 
   replays : CanMeet [] held_files (Replay (codes "net") (codes "j") None) replayed
   replays words asks = record {
-    call = call_of words (after (codes "x") replayed) balance_journal (report_text balance_report);
+    call = call_of words (after (codes "x") replayed) balance_journal (report_text balance_report) [];
     words_are = refl;
     own_is = refl;
     shelf = refl;
     opened = refl;
-    faults = record { reads = λ rose. omega (arith, rose); writes = λ rose. omega (arith, rose); prints = λ rose. omega (arith, rose) };
-    valid = call_valid [] words (Replay (codes "net") (codes "j") None) replayed (call_of words (after (codes "x") replayed) balance_journal (report_text balance_report)).work refl refl refl refl asks refl (replay_valid plain single words asks);
+    faults = record { reads = λ rose. omega (arith, rose); writes = λ rose. omega (arith, rose); prints = λ rose. omega (arith, rose); remarks = λ rose. omega (arith, rose) };
+    valid = call_valid [] words (Replay (codes "net") (codes "j") None) replayed (call_of words (after (codes "x") replayed) balance_journal (report_text balance_report) []).work refl refl refl refl asks refl (replay_valid plain single words asks);
     ends = inr (record {
       text = report_text balance_report;
       says = inr (inl (record {
@@ -299,17 +304,21 @@ module _ (starts : StartsPlans std_rules) (prefixes : KeepsPrefixes std_rules) (
     });
   }
 
-  runs : (kept tapes : Option Name) (workers : ℕ) → CanMeet [] held_files (run_of (run_with kept tapes workers)) ran
-  runs kept tapes workers words asks = record {
-    call = call_of words (after_run (run_with kept tapes workers)) balance_journal (report_text balance_report);
+  -- The call of a run.
+  abbrev run_call : List (String Global) → AskedRun → Call
+  run_call words asked = call_of words (after_run asked) balance_journal (printed_text asked.report balance_report) (remarked_text asked.report balance_report)
+
+  runs : (kept tapes : Option Name) (workers : ℕ) (report : AskedReport) → CanMeet [] held_files (run_of (run_with kept tapes workers report)) ran
+  runs kept tapes workers report words asks = record {
+    call = run_call words (run_with kept tapes workers report);
     words_are = refl;
     own_is = refl;
     shelf = refl;
     opened = refl;
-    faults = record { reads = λ rose. omega (arith, rose); writes = λ rose. omega (arith, rose); prints = λ rose. omega (arith, rose) };
-    valid = call_valid [] words (Run (codes "net") kept tapes workers) ran (call_of words (after_run (run_with kept tapes workers)) balance_journal (report_text balance_report)).work refl refl refl refl asks refl (run_valid words (Run (codes "net") kept tapes workers) asks refl);
+    faults = record { reads = λ rose. omega (arith, rose); writes = λ rose. omega (arith, rose); prints = λ rose. omega (arith, rose); remarks = λ rose. omega (arith, rose) };
+    valid = call_valid [] words (Run (codes "net") kept tapes workers report) ran (run_call words (run_with kept tapes workers report)).work refl refl refl refl asks refl (run_valid words (Run (codes "net") kept tapes workers report) asks refl);
     ends = inl (
-      run_with kept tapes workers,
+      run_with kept tapes workers report,
       asks,
       record {
         report = balance_report;

@@ -1,5 +1,5 @@
 -- That what the top calls ask before they promise to come to their end can be had: calls over files that are told, of a network whose LoadBalance sees levels.
-use Rattle.std.specs.Prelude.{◌≡◌, ℕ, true, List, [], ◌∷◌, ◌++◌, replicate, map, codes, Option, Some, None, String, if◌then◌else◌}
+use Rattle.std.specs.Prelude.{◌≡◌, ℕ, true, false, List, [], ◌∷◌, ◌++◌, replicate, map, codes, Option, Some, None, String, if◌then◌else◌}
 use Rattle.std.specs.Str.{bytes_eq}
 use Rattle.std.specs.declared.alloc.Global.{Global}
 use Rattle.flow_text.specs.Edge.{Outside, Name, Files}
@@ -7,7 +7,7 @@ use Rattle.flow_plan.specs.declared.kind.PortClass.TheVariants.{Stream}
 use Rattle.flow_plan.specs.declared.plan.Connection.{Connection}
 use Rattle.flow_plan.specs.declared.plan.PortTable.{PortTable}
 use Rattle.flow_plan.specs.Network.{Network}
-use Rattle.flow_words.specs.Words.{Asked, run_of, Run, Check, Judge, Replay, command_of}
+use Rattle.flow_words.specs.Words.{Asked, AskedReport, run_of, Run, Check, Judge, Replay, command_of}
 use Rattle.flow_journal.specs.Files.{IsFileOf}
 use Rattle.flow_journal.specs.declared.merge.Journal.{Journal}
 use Rattle.flow_load.specs.Step.{Filled, whole}
@@ -119,11 +119,11 @@ pub record PremisesAreMet : Type 0 where
   pub journal_is : IsFileOf balance_journal journal_bytes
   pub schedule : IsValidReplay [] None (map whole (network_file ∷ journal_file ∷ input_file ∷ [])) balance
   pub replay : CanMeet [] held_files (Replay (codes "net") (codes "j") None) (network_file ∷ journal_file ∷ input_file ∷ [])
-  pub run : (kept tapes : Option Name) (workers : ℕ) → CanMeet [] held_files (run_of (record { net = codes "net"; journal = kept; tapes = tapes; workers = workers })) (network_file ∷ input_file ∷ [])
+  pub run : (kept tapes : Option Name) (workers : ℕ) (report : AskedReport) → CanMeet [] held_files (run_of (record { net = codes "net"; journal = kept; tapes = tapes; workers = workers; report = report })) (network_file ∷ input_file ∷ [])
   pub check : CanMeet [] held_files (Check (codes "net")) (network_file ∷ [])
   pub judge : CanMeet [] held_files (Judge (codes "net")) (network_file ∷ [])
   -- Such words there are: of each form these texts.
   pub asks_replay : command_of (codes "--replay" ∷ codes "j" ∷ codes "net" ∷ []) ≡ Some (Replay (codes "net") (codes "j") None)
-  pub asks_run : command_of (codes "net" ∷ []) ≡ Some (Run (codes "net") None None 0)
+  pub asks_run : command_of (codes "net" ∷ []) ≡ Some (Run (codes "net") None None 0 (record { file = None; quiet = false; brief = false }))
   pub asks_check : command_of (codes "--check" ∷ codes "net" ∷ []) ≡ Some (Check (codes "net"))
   pub asks_judge : command_of (codes "--determinate" ∷ codes "net" ∷ []) ≡ Some (Judge (codes "net"))

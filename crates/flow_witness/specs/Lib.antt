@@ -7,3 +7,4 @@ pub mod Telegram
 pub mod Nightly
 pub mod Complete
 pub mod Lone
+pub mod Paused

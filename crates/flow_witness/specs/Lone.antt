@@ -10,7 +10,7 @@ use Rattle.flow_plan.specs.declared.kind.KindSpec.{KindSpec}
 use Rattle.flow_plan.specs.declared.kind.PortClass.TheVariants.{Stream}
 use Rattle.flow_plan.specs.declared.plan.Process.{Process}
 use Rattle.flow_plan.specs.Network.{Network}
-use Rattle.flow_words.specs.Words.{run_of, Replay, command_of}
+use Rattle.flow_words.specs.Words.{AskedReport, run_of, Replay, command_of}
 use Rattle.flow_journal.specs.Files.{IsFileOf}
 use Rattle.flow_journal.specs.declared.merge.Journal.{Journal}
 use Rattle.flow_load.specs.Step.{Filled}
@@ -75,6 +75,6 @@ pub record PremisesWithPartsAreMet : Type 0 where
   pub journal_is : IsFileOf lone_journal lone_journal_bytes
   pub tapes_are : IsFileOfTapes (lone_tape ∷ []) lone_tape_bytes
   pub replay : CanMeet (lone_offer 0) lone_files (Replay (codes "net") (codes "j") (Some (codes "t"))) (lone_file ∷ lone_journal_file ∷ lone_tape_file ∷ [])
-  pub run : (kept tapes : Option Name) (workers : ℕ) → CanMeet (lone_offer 1) lone_files (run_of (record { net = codes "net"; journal = kept; tapes = tapes; workers = workers })) (lone_file ∷ [])
+  pub run : (kept tapes : Option Name) (workers : ℕ) (report : AskedReport) → CanMeet (lone_offer 1) lone_files (run_of (record { net = codes "net"; journal = kept; tapes = tapes; workers = workers; report = report })) (lone_file ∷ [])
   -- Words for the replay there are: these texts.
   pub asks_replay : command_of (codes "--replay" ∷ codes "j" ∷ codes "--tapes" ∷ codes "t" ∷ codes "net" ∷ []) ≡ Some (Replay (codes "net") (codes "j") (Some (codes "t")))

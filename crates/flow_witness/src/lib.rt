@@ -3,10 +3,13 @@
 //! Each theorem is the contract of a function without a body.
 //!
 //! The first run is that of a chain. Its network is written out in `specs/Chain.antt`, and is what a builder makes of a text.
+//!
+//! Beside these stands a law for programs that pause their network. It joins laws of two crates, neither of which knows the other.
 #![tactic(auto)]
 
 mod complete;
 mod nightly;
+mod paused;
 mod telegram;
 
 ghost use Rattle.flow_witness.specs.Ends.{IsStuck, IsFailure, IsMerge};
@@ -16,6 +19,7 @@ ghost use Rattle.flow_witness.specs.Twice.{TwiceIsRefused};
 
 pub use complete::{the_premises_of_completeness_are_met, the_premises_with_parts_are_met};
 pub use nightly::the_nightly_network_is_a_batch_update;
+pub use paused::a_paused_network_tells_of_its_schedule;
 pub use telegram::the_telegram_composes;
 
 /// The chain of a reader of the one line `x`, a process that passes it on and a writer is the plan of what a network file says of it,

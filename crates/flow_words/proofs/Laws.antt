@@ -1,15 +1,19 @@
 -- What the lines of a command ask for.
-use Rattle.std.proofs.Common.{◌≡◌, ◌∙◌, refl, sym, ap, ap₂, subst, inl, inr, Bool, true, false, ℕ, List, [], ◌∷◌, ◌++◌, Some, None, Option, codes}
+use Rattle.std.proofs.Common.{◌≡◌, ◌∙◌, refl, sym, ap, ap₂, subst, inl, inr, Bool, true, false, ℕ, List, [], ◌∷◌, ◌++◌, Some, None, Option, codes, arith}
 use Rattle.std.proofs.lemmas.List.{append-nil, append_assoc}
 use Rattle.std.proofs.lemmas.Slice.Eq.{bytes_eq-Decides}
 use Rattle.std.specs.Prelude.{find, fold, is_some, map, not, option_map, ◌&&◌, ◌||◌, if◌then◌else◌}
+use Rattle.std.proofs.lemmas.Grind.{common_steps}
 use Rattle.std.specs.Str.{bytes_eq}
 use Rattle.std.specs.Option.{option_map_or}
 use Rattle.clap.specs.Faults.{default_fault, defaults_fault, entered_fault, fault_of, given_default_fault, is_simple_and_free, level_fault, option_fault, react_fault, settle_fault, use_fault, walk_fault}
-use Rattle.clap.specs.Kinds.{Kinds, or_else}
+use Rattle.clap.specs.Kinds.{HasKind, IsAmong, Kinds, or_else}
+use Rattle.clap.specs.Words.{kind_of}
+use Rattle.clap.specs.declared.error.Error.{Error}
+use Rattle.clap.specs.declared.error.kind.ErrorKind.{ErrorKind}
 use Rattle.clap.specs.Simple.{App, built, entered, is_simple, matches_of}
 use Rattle.clap.specs.Walk.{Row, Rule, Text, Walk, flag_met, has_row, is_empty, nothing_held, option_met, settled, settled_rows, used, used_by_id, walk_from, walked, with_default}
-use Rattle.clap.specs.declared.error.kind.ErrorKind.TheVariants.{ArgumentConflict, TooManyValues}
+use Rattle.clap.specs.declared.error.kind.ErrorKind.TheVariants.{ArgumentConflict, OutOfMemory, TooManyValues}
 use Rattle.flow_words.specs.declared.argument.Argument.{Argument}
 use Rattle.flow_words.specs.declared.argument.Argument.TheVariants.{NetFile}
 use Rattle.flow_words.specs.declared.argument.Shape.{Shape}
@@ -277,3 +281,17 @@ read-as app words rows found is matched free asked =
     let same : rows ≡ matches_of line_app words = matched simple ∙ ap (λ (a : App). matches_of a words) is in
     asked ∙ ap (λ (r : List Row). form_of (value_in r)) same
     ∙ sym (ap (λ (kinds : Kinds). if is_empty kinds then form_of (value_in (matches_of line_app words)) else None) no_fault)
+
+-- A fault is there where an error has its kind.
+some-fault : (kinds : Kinds) (k : ErrorKind) → IsAmong k kinds → is_empty kinds ≡ false
+some-fault [] k among = absurd among
+some-fault (first ∷ kinds) k among = grind (arith, common_steps)
+
+-- Words that clap refuses for another reason than want of memory ask for nothing.
+pub none-as : (app : App) (words : List Text) (e : Error) → app ≡ line_app → (is_simple_and_free app ≡ true → HasKind (fault_of app words) e) → (kind_of e ≡ OutOfMemory → ⊥) → None ≡ command_of words
+none-as app words e is has other = go (has (ap is_simple_and_free is)) where
+  go : HasKind (fault_of app words) e → None ≡ command_of words
+  go (inl memory) = absurd (other memory)
+  go (inr among) =
+      let fault : is_empty (fault_of line_app words) ≡ false = ap (λ (a : App). is_empty (fault_of a words)) (sym is) ∙ some-fault (fault_of app words) (kind_of e) among in
+      sym (ap (λ (b : Bool). if b then form_of (value_in (matches_of line_app words)) else None) fault)

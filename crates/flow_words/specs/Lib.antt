@@ -3,3 +3,4 @@ pub mod Arguments
 pub mod Forms
 pub mod Words
 pub mod Lines
+pub mod Pages

@@ -1,7 +1,7 @@
 //! What may stand in a command line.
 ghost use Rattle.std.specs.Prelude.{◌≡◌, false};
 ghost use Rattle.clap.specs.Words.{rule_of};
-ghost use Rattle.flow_words.specs.Arguments.{name_of, rule_by, rule_for, shape_of};
+ghost use Rattle.flow_words.specs.Arguments.{letter_of, name_of, rule_by, rule_for, shape_of};
 
 use clap::{Arg, ArgAction};
 use std::alloc::Global;
@@ -18,6 +18,11 @@ pub enum Argument {
     Make,
     Tapes,
     Workers,
+    Report,
+    Quiet,
+    Brief,
+    Help,
+    Version,
 }
 
 /// How an argument stands in a line: a name by itself, a flag without a value, or an option with one.
@@ -29,7 +34,7 @@ pub enum Shape {
 }
 
 /// All arguments, in the order of the usage.
-pub const ARGUMENTS: [Argument; 9] = [
+pub const ARGUMENTS: [Argument; 14] = [
     Argument::NetFile,
     Argument::Check,
     Argument::Determinate,
@@ -39,6 +44,11 @@ pub const ARGUMENTS: [Argument; 9] = [
     Argument::Make,
     Argument::Tapes,
     Argument::Workers,
+    Argument::Report,
+    Argument::Quiet,
+    Argument::Brief,
+    Argument::Help,
+    Argument::Version,
 ];
 
 impl Argument {
@@ -56,6 +66,11 @@ impl Argument {
             Argument::Make => "make",
             Argument::Tapes => "tapes",
             Argument::Workers => "workers",
+            Argument::Report => "report",
+            Argument::Quiet => "quiet",
+            Argument::Brief => "brief",
+            Argument::Help => "help",
+            Argument::Version => "version",
         }
     }
 
@@ -65,12 +80,29 @@ impl Argument {
     {
         match self {
             Argument::NetFile => Shape::Name,
-            Argument::Check | Argument::Determinate | Argument::Kinds => Shape::Flag,
+            Argument::Check
+            | Argument::Determinate
+            | Argument::Kinds
+            | Argument::Quiet
+            | Argument::Brief
+            | Argument::Help
+            | Argument::Version => Shape::Flag,
             Argument::Journal
             | Argument::Replay
             | Argument::Make
             | Argument::Tapes
-            | Argument::Workers => Shape::Valued,
+            | Argument::Workers
+            | Argument::Report => Shape::Valued,
+        }
+    }
+
+    /// The letter that stands for it behind a single `-`, where it has one.
+    pub fn letter(self) -> Option<char>
+        ensures { result ≡ letter_of self }
+    {
+        match self {
+            Argument::Help => Some('h'),
+            _ => None,
         }
     }
 
@@ -79,11 +111,23 @@ impl Argument {
         ensures rule { rule_of result ≡ rule_for self }
         ensures local { result.global ≡ false }
     {
-        match self.shape() {
-            Shape::Name => Arg::new(alloc, self.name()),
-            Shape::Flag => flag(alloc, self.name()),
-            Shape::Valued => option(alloc, self.name()),
+        let arg = by_shape(alloc, self.shape(), self.name());
+        match self.letter() {
+            Some(letter) => arg.short(letter),
+            None => arg,
         }
+    }
+}
+
+// An argument of this shape and name, without a letter.
+fn by_shape<'a>(alloc: Global, shape: Shape, name: &'a str) -> Arg<'a>
+    ensures rule { rule_of result ≡ rule_by shape name.entry.now }
+    ensures local { result.global ≡ false }
+{
+    match shape {
+        Shape::Name => Arg::new(alloc, name),
+        Shape::Flag => flag(alloc, name),
+        Shape::Valued => option(alloc, name),
     }
 }
 

@@ -1,5 +1,27 @@
 //! What a command line may ask for.
 
+/// How the report of a run is to be told. The file is named as it was given.
+#[derive(Clone, Copy, Debug, PartialEq, Eq)]
+pub struct ReportCommand<'a> {
+    /// The file to which it is written, where one is named; then none of it is printed.
+    pub file: Option<&'a str>,
+    /// Nothing is said of a run that finished with nothing left.
+    pub quiet: bool,
+    /// Where it is said, it is said in brief.
+    pub brief: bool,
+}
+
+/// A page that is asked for.
+#[derive(Clone, Copy, Debug, PartialEq, Eq)]
+pub enum Page {
+    /// The standard kinds.
+    Kinds,
+    /// What the program can be asked for.
+    Help,
+    /// Which version of the program it is.
+    Version,
+}
+
 /// A run that is asked for. Files are named as they were given.
 #[derive(Clone, Copy, Debug, PartialEq, Eq)]
 pub struct RunCommand<'a> {
@@ -11,6 +33,7 @@ pub struct RunCommand<'a> {
     pub tapes: Option<&'a str>,
     /// So many workers run it; without any one thread does.
     pub workers: u32,
+    pub report: ReportCommand<'a>,
 }
 
 /// What a command line asks for. Files are named as they were given.
@@ -22,8 +45,8 @@ pub enum Command<'a> {
     Check(&'a str),
     /// Tell whether the plan of this network file is determinate.
     Judge(&'a str),
-    /// Print the page of the standard kinds.
-    Kinds,
+    /// Print this page.
+    Page(Page),
     /// Make the turns again that a journal's file tells of the network of a file, with what the tapes of its own
     /// components tell, where a file of them is named.
     Replay {

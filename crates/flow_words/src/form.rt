@@ -13,6 +13,8 @@ pub enum Form {
     Kinds,
     Replay,
     Make,
+    Help,
+    Version,
 }
 
 /// Whether an argument has to stand in a line of a form, may stand there, or doesn't.
@@ -24,13 +26,15 @@ pub enum Place {
 }
 
 /// All forms. No line fits two of them.
-pub const FORMS: [Form; 6] = [
+pub const FORMS: [Form; 8] = [
     Form::Run,
     Form::Check,
     Form::Judge,
     Form::Kinds,
     Form::Replay,
     Form::Make,
+    Form::Help,
+    Form::Version,
 ];
 
 impl Form {
@@ -43,6 +47,9 @@ impl Form {
             (Form::Run, Argument::Journal) => Place::Free,
             (Form::Run, Argument::Tapes) => Place::Free,
             (Form::Run, Argument::Workers) => Place::Free,
+            (Form::Run, Argument::Report) => Place::Free,
+            (Form::Run, Argument::Quiet) => Place::Free,
+            (Form::Run, Argument::Brief) => Place::Free,
             (Form::Check, Argument::NetFile) => Place::Needed,
             (Form::Check, Argument::Check) => Place::Needed,
             (Form::Judge, Argument::NetFile) => Place::Needed,
@@ -53,6 +60,11 @@ impl Form {
             (Form::Replay, Argument::Tapes) => Place::Free,
             (Form::Make, Argument::Make) => Place::Needed,
             (Form::Make, Argument::Workers) => Place::Free,
+            (Form::Help, Argument::Help) => Place::Needed,
+            (Form::Help, _) => Place::Free,
+            (Form::Version, Argument::Version) => Place::Needed,
+            (Form::Version, Argument::Help) => Place::Barred,
+            (Form::Version, _) => Place::Free,
             _ => Place::Barred,
         }
     }

@@ -5,7 +5,9 @@
 mod argument;
 mod asked;
 mod form;
+mod pages;
 mod words;
 
-pub use asked::{Command, RunCommand};
+pub use asked::{Command, Page, ReportCommand, RunCommand};
+pub use pages::{help_page, version_line};
 pub use words::command;

@@ -5,10 +5,10 @@ ghost use Rattle.clap.specs.Words.{app_of, found_of, rows_of};
 ghost use Rattle.flow_words.specs.Forms.{fits, forms};
 ghost use Rattle.flow_words.specs.Lines.{AreOnce, Given, IsLine, values_of};
 ghost use Rattle.flow_words.specs.Numbers.{AreSpelled, spelled_number, spelled_workers};
-ghost use Rattle.flow_words.specs.Words.{IsWithinBounds, Run, asked_as, asked_by, command_of, form_of, given_workers, is_given, line_app, make_by, row_named, value_by, value_in};
+ghost use Rattle.flow_words.specs.Words.{IsWithinBounds, Run, asked_as, asked_by, command_of, form_of, given_workers, is_given, line_app, make_by, report_by, report_file_in, report_in, row_named, value_by, value_in};
 
 use crate::argument::{ARGUMENTS, Argument, Shape};
-use crate::asked::{Command, RunCommand};
+use crate::asked::{Command, Page, ReportCommand, RunCommand};
 use crate::form::{FORMS, Form};
 use clap::ArgMatches;
 use clap::error::ErrorKind;
@@ -20,8 +20,7 @@ use std::alloc::{AllocError, Global};
 /// What the words after the program's name ask for, or `None` where they are no command line. Which
 /// names, flags and options make which form is this project's own rule; a line may give them in any order. How the words are told apart
 /// and which are refused is clap's: the word after `--` is a name, and the text behind an option's `=`
-/// its value, whatever they begin with, and a call for help or the version is refused like any other
-/// flag.
+/// its value, whatever they begin with. The flags for help and for the version are this project's own, and not those that clap could add.
 pub fn command<'a>(alloc: Global, words: &'a [String]) -> Result<Option<Command<'a>>, AllocError>
     ensures words { IfOk result (λ command.
         option_map asked_by command ≡ command_of (map string_bytes words.entry.now)) }
@@ -70,11 +69,12 @@ fn asked_as<'a>(form: Form, matches: &ArgMatches<'a>) -> Option<Command<'a>>
     match form {
         Form::Run => {
             let journal = value_of(matches, Argument::Journal);
-            run_of(net?, journal, value_of(matches, Argument::Tapes), workers)
+            let tapes = value_of(matches, Argument::Tapes);
+            run_of(net?, journal, tapes, workers, report_given(matches))
         }
         Form::Check => Some(Command::Check(net?)),
         Form::Judge => Some(Command::Judge(net?)),
-        Form::Kinds => Some(Command::Kinds),
+        Form::Kinds => Some(Command::Page(Page::Kinds)),
         Form::Replay => {
             let journal = value_of(matches, Argument::Replay)?;
             let tapes = value_of(matches, Argument::Tapes);
@@ -85,6 +85,29 @@ fn asked_as<'a>(form: Form, matches: &ArgMatches<'a>) -> Option<Command<'a>>
             })
         }
         Form::Make => make_of(value_of(matches, Argument::Make)?, workers),
+        Form::Help => Some(Command::Page(Page::Help)),
+        Form::Version => Some(Command::Page(Page::Version)),
+    }
+}
+
+// How clap's matches say that the report is to be told.
+fn report_given<'a>(matches: &ArgMatches<'a>) -> ReportCommand<'a>
+    ensures { report_by result ≡ report_in (value_in (rows_of (found_of matches.now))) }
+{
+    ReportCommand {
+        file: report_file(value_of(matches, Argument::Report)),
+        quiet: value_of(matches, Argument::Quiet).is_some(),
+        brief: value_of(matches, Argument::Brief).is_some(),
+    }
+}
+
+// The file for a report. The name `-` is none: the report stays where it is printed.
+fn report_file<'a>(name: Option<&'a str>) -> Option<&'a str>
+    ensures { option_map (λ s. s.now) result ≡ report_file_in (option_map (λ s. s.now) name.entry) }
+{
+    match name {
+        None => None,
+        Some(name) => { if name == "-" { None } else { Some(name) } }
     }
 }
 
@@ -124,14 +147,15 @@ fn value_of<'a>(matches: &ArgMatches<'a>, argument: Argument) -> Option<&'a str>
     }
 }
 
-// A run of this network file, with so many workers as are given.
+// A run of this network file, with so many workers as are given, whose report is told so.
 fn run_of<'a>(
     net: &'a str,
     journal: Option<&'a str>,
     tapes: Option<&'a str>,
     workers: Option<&'a str>,
+    report: ReportCommand<'a>,
 ) -> Option<Command<'a>>
-    ensures asks { option_map asked_by result ≡ option_map (Run net.entry.now (option_map (λ s. s.now) journal.entry) (option_map (λ s. s.now) tapes.entry)) (given_workers (option_map (λ s. s.now) workers.entry)) }
+    ensures asks { option_map asked_by result ≡ option_map (λ count. Run net.entry.now (option_map (λ s. s.now) journal.entry) (option_map (λ s. s.now) tapes.entry) count (report_by report.entry)) (given_workers (option_map (λ s. s.now) workers.entry)) }
     ensures bounds { IfSome result (λ command. IsWithinBounds (asked_by command)) }
 {
     let workers = workers_of(workers)?;
@@ -140,6 +164,7 @@ fn run_of<'a>(
         journal,
         tapes,
         workers,
+        report,
     }))
 }
 

@@ -1,13 +1,9 @@
 -- The kind of the component.
-use Rattle.std.specs.Prelude.{◌∷◌, [], ℕ, List, true, false, codes}
+use Rattle.std.specs.Prelude.{◌∷◌, [], false, codes}
 use Rattle.flow_plan.specs.declared.kind.KindSpec.{KindSpec}
-use Rattle.flow_plan.specs.declared.kind.PortSpec.{PortSpec}
-use Rattle.flow_plan.specs.declared.kind.PortClass.TheVariants.{Stream}
+use Rattle.flow_plan.specs.declared.kind.PortClass.TheVariants.{Number}
+use Rattle.flow_line_kind.specs.Kind.{line_kind_with, option}
 
--- A port of this name that carries packets and has to be connected.
-abbrev pub packets_port : List ℕ → PortSpec
-packets_port name = record { name = name; class = Stream; array = false; needed = true }
-
--- The kind Lines: packets come in at IN, and leave by OUT.
+-- The kind Lines: packets come in at IN, and leave by OUT; and START may be given a number, 0 to 2^32 - 1.
 abbrev pub lines_kind : KindSpec
-lines_kind = record { name = codes "Lines"; inputs = packets_port (codes "IN") ∷ []; outputs = packets_port (codes "OUT") ∷ [] }
+lines_kind = line_kind_with (codes "Lines") (option (codes "START") (Number 0 4294967295) false ∷ [])

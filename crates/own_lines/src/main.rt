@@ -1,60 +1,39 @@
-//! A program like `flow` with a component of one's own: the kind Lines, of which one process of a network may be.
-//! Whoever writes such a program starts from it (`docs/OWN-COMPONENTS.md`). What is promised is the contract of the top
-//! calls in `flow_cli`.
+//! A program like `flow` with a component of one's own: the kind Lines. Whoever writes such a program starts from it
+//! (`docs/OWN-COMPONENTS.md`). What it does with its words is in `flow_program`.
 #![tactic(auto)]
 
-ghost use Rattle.std.specs.Prelude.{IfOk};
-ghost use Rattle.flow_offer.specs.Kinds.{AreOwnKinds};
-ghost use Rattle.flow_load.specs.Offers.{offers_of, specs_of};
-
-use flow_cli::{OwnKind, Status, busy_top, needs_workers, plain_top};
-use flow_component::NoGate;
-use flow_explain::{expect_kept, words_of};
-use flow_files::{FileShelf, StdSink};
+use flow_files::StdSink;
+use flow_line::ByLine;
+use flow_plan::KindSpec;
+use flow_program::making_program;
+use flow_supply::{Asked, Maker};
 use own_kind::{lines_is_an_own_kind, lines_kind};
 use own_part::Lines;
 use std::alloc::{AllocError, Global};
 use std::env;
 use std::process::ExitCode;
 
-// What is handed in: the kind, and one part of it.
-fn own_kinds(alloc: Global) -> Result<Vec<OwnKind<Lines>>, AllocError>
-    ensures { IfOk result (λ own. AreOwnKinds (specs_of (offers_of own.items))) }
-{
-    let mut parts = Vec::new(alloc);
-    parts.push(Lines::new(alloc))?;
-    let spec = lines_kind(alloc)?;
-    let mut own = Vec::new(alloc);
-    own.push(OwnKind { spec, parts })?;
-    lines_is_an_own_kind();
-    Ok(own)
-}
+/// Makes a part for each process of the kind.
+struct Own;
 
-// How the program ends where there is no memory to begin with.
-fn no_memory() -> ExitCode {
-    ExitCode::from(Status::NoMemory.code())
+impl Maker for Own {
+    type Part = ByLine<Lines>;
+
+    fn kinds(&self, alloc: Global) -> Result<Vec<KindSpec>, AllocError> {
+        lines_is_an_own_kind();
+        let mut kinds = Vec::new(alloc);
+        kinds.push(lines_kind(alloc)?)?;
+        Ok(kinds)
+    }
+
+    fn make(&self, alloc: Global, asked: &Asked<'_>) -> Result<ByLine<Lines>, AllocError> {
+        let first = asked.number(b"START").unwrap_or(1);
+        Ok(ByLine::new(alloc, Lines::new(first)))
+    }
 }
 
 fn main(rt: HostRuntime) -> ExitCode {
-    let alloc = rt.alloc();
-    let Ok(words) = words_of(alloc, env::args(&rt)) else {
-        return no_memory();
-    };
-    let Ok(needs) = needs_workers(alloc, &words) else {
-        return no_memory();
-    };
-    let Ok(own) = own_kinds(alloc) else {
-        return no_memory();
-    };
-    let mut shelf = FileShelf::new(alloc, &rt);
-    if expect_kept(alloc, &mut shelf, &words).is_err() {
-        return no_memory();
-    }
-    let mut out = StdSink::new(&rt);
-    let outcome = if needs {
-        busy_top(&rt, alloc, &words, &mut shelf, &mut out, &NoGate, own)
-    } else {
-        plain_top(alloc, &words, &mut shelf, &mut out, own)
-    };
-    ExitCode::from(outcome.status.code())
+    let out = StdSink::new(&rt);
+    let err = StdSink::new(rt.stderr());
+    making_program(rt.alloc(), &rt, env::args(&rt), out, err, &Own)
 }

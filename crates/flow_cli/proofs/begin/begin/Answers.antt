@@ -1,11 +1,13 @@
-use Rattle.std.proofs.Common.{Ok, subst}
-use Rattle.flow_words.specs.Words.{Check, Judge, Replay, run_by}
+use Rattle.std.proofs.Common.{◌≡◌, List, Ok, subst, sym}
+use Rattle.flow_plan.specs.declared.kind.KindSpec.{KindSpec}
+use Rattle.flow_words.specs.Words.{Check, Judge, Page, Replay, run_by}
 use Rattle.flow_load.specs.Offers.{AnyKind}
 use Rattle.flow_load.specs.Prepare.{Prepares}
 use Rattle.flow_load.specs.declared.before.Task.{Task}
+use Rattle.flow_cli.specs.Top.{page_text}
 use Rattle.flow_cli.proofs.Beginnings.{again-components, again-offered, begins-make, begins-run, run-live, run-offered, some-offer}
 use Rattle.flow_cli.proofs.Manned.{as-asked, by-none}
-use Rattle.flow_cli.proofs.Performing.{again-stopped, says-again, says-checked, says-judged, wants-memory}
+use Rattle.flow_cli.proofs.Performing.{again-stopped, says-again, says-checked, says-judged, says-page, wants-memory}
 use Rattle.flow_load.proofs.Steps.{may-read}
 use Rattle.flow_cli.proofs.begin.begin.Goals as goal
 
@@ -88,6 +90,17 @@ returns-in-Ok-judgement g c = λ own offered.
     let said = c.in-Ok-judgement.ensures in (
       says-judged o a c.args.words.now own ready.0 ready.2.0 ready.2.1 c.in-Judge.plan c.in-Ok-judgement.said ready.1 ready.2.2 ready.2.3 said.text said.status said.nothing,
       as-asked c.args.words.now (Judge ready.0) c.in-Ok-judgement.said.crew c.in-Ok-judgement.said.journal ready.1 (by-none c.in-Ok-judgement.said.crew c.in-Ok-judgement.said.journal said.crew),
+    )
+
+pub returns-in-Ok-page : goal.returns-in-Ok-page
+returns-in-Ok-page g c = λ own offered.
+    let o = g.F.Edge.outside c.args.shelf.now in
+    let a = g.F.Edge.outside c.prepare.new.shelf in
+    let ready = subst (λ (t : Task AnyKind). Prepares own o a c.args.words.now (Ok t)) c.in-Page.is (c.in-Ok.ensures.prepares own offered) in
+    let said = c.in-Ok-page.ensures in
+    let text = subst (λ (ks : List KindSpec). c.in-Ok-page.said.text.items ≡ page_text ks c.in-Page.asked) (sym offered.kinds_are) said.text in (
+      says-page o a c.args.words.now own c.in-Page.asked c.in-Ok-page.said ready.0 ready.1 text said.status said.nothing,
+      as-asked c.args.words.now (Page c.in-Page.asked) c.in-Ok-page.said.crew c.in-Ok-page.said.journal ready.0 (by-none c.in-Ok-page.said.crew c.in-Ok-page.said.journal said.crew),
     )
 
 pub run_again-requires-clause-offered : goal.run_again-requires-clause-offered

@@ -14,4 +14,4 @@ unwritten-requires-clause-tapes g c = tapes-writable c.args.own.now c.args.plan 
 pub returns : goal.returns
 returns g c =
     run-ends c.args.own.now c.args.plan (run_by c.args.asked) c.args.worked c.in_ok-ran.ran c.unwritten.result c.in_ok-ran.ensures.plan c.in_ok-ran.ensures.leaves c.unwritten.ensures.ran c.unwritten.ensures.journal
-    c.unwritten.ensures.tapes
+    c.unwritten.ensures.tapes c.unwritten.ensures.telling

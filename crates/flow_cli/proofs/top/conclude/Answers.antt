@@ -1,4 +1,5 @@
 use Rattle.std.proofs.Common.{inr, subst}
+use Rattle.flow_cli.specs.After.{outputs_at}
 use Rattle.flow_cli.specs.Top.{Performs, recorded_of}
 use Rattle.flow_cli.proofs.Concluding.{done-manned}
 use Rattle.flow_cli.proofs.Keeping.{done-keeps, stop-keeps}
@@ -31,12 +32,12 @@ returns-in-Ok-clause-promises g c = λ own words before did.
       tapes_apart = c.a_file_has_one_list_of_tapes_or_one_fault.ensures.apart;
       tapes_single = c.a_file_has_one_list_of_tapes_or_one_fault.ensures.tapes;
     } in
-    done-keeps laws words own before (g.F.Edge.outside c.args.shelf.now) (g.F.Edge.outside c.tell.new.shelf) (g.O.Edge.outside c.args.out.now) (g.O.Edge.outside c.tell.new.out) c.in-Ok.done c.tell.result
+    done-keeps laws words own before (g.F.Edge.outside c.args.shelf.now) (g.F.Edge.outside c.tell.new.shelf) (outputs_at (g.O.Edge.outside c.args.out.now) (g.E.Edge.outside c.args.err.now)) (outputs_at (g.O.Edge.outside c.tell.new.out) (g.E.Edge.outside c.tell.new.err)) c.in-Ok.done c.tell.result
     (subst (λ r. Performs own before (g.F.Edge.outside c.args.shelf.now) words r) c.in-Ok.is did) c.tell.ensures
 
 pub returns-in-Ok-clause-crew : goal.returns-in-Ok-clause-crew
 returns-in-Ok-clause-crew g c = λ own words before did.
-    done-manned words own before (g.F.Edge.outside c.args.shelf.now) (g.F.Edge.outside c.tell.new.shelf) (g.O.Edge.outside c.args.out.now) (g.O.Edge.outside c.tell.new.out) c.in-Ok.done c.tell.result
+    done-manned words own before (g.F.Edge.outside c.args.shelf.now) (g.F.Edge.outside c.tell.new.shelf) (outputs_at (g.O.Edge.outside c.args.out.now) (g.E.Edge.outside c.args.err.now)) (outputs_at (g.O.Edge.outside c.tell.new.out) (g.E.Edge.outside c.tell.new.err)) c.in-Ok.done c.tell.result
     (subst (λ r. Performs own before (g.F.Edge.outside c.args.shelf.now) words r) c.in-Ok.is did) c.tell.ensures
 
 pub returns-in-Err-clause-promises : goal.returns-in-Err-clause-promises
@@ -65,9 +66,9 @@ returns-in-Err-clause-promises g c = λ own words before did.
       tapes_single = c.a_file_has_one_list_of_tapes_or_one_fault.ensures.tapes;
     } in
     let stopped = subst (λ r. Performs own before (g.F.Edge.outside c.args.shelf.now) words r) c.in-Err.is did in
-    stop-keeps laws words own before (g.F.Edge.outside c.args.shelf.now) (g.O.Edge.outside c.args.out.now) (g.O.Edge.outside c.stopped.new.out) (recorded_of c.stopped.result) c.stopped.result.status c.in-Err.stop
+    stop-keeps laws words own before (g.F.Edge.outside c.args.shelf.now) (outputs_at (g.O.Edge.outside c.args.out.now) (g.E.Edge.outside c.args.err.now)) (outputs_at (g.O.Edge.outside c.stopped.new.out) (g.E.Edge.outside c.stopped.new.err)) (recorded_of c.stopped.result) c.stopped.result.status c.in-Err.stop
     (stopped (recorded_of c.stopped.result) c.stopped.ensures.nothing) c.stopped.ensures.status
 
 pub returns-in-Err-clause-crew : goal.returns-in-Err-clause-crew
 returns-in-Err-clause-crew g c = λ own words before did.
-    inr ((c.stopped.ensures.crew, c.stopped.ensures.nothing.0), stop-not-over (g.O.Edge.outside c.args.out.now) (g.O.Edge.outside c.stopped.new.out) c.in-Err.stop c.stopped.result.status c.stopped.ensures.status)
+    inr ((c.stopped.ensures.crew, c.stopped.ensures.nothing.0), stop-not-over (outputs_at (g.O.Edge.outside c.args.out.now) (g.E.Edge.outside c.args.err.now)) (outputs_at (g.O.Edge.outside c.stopped.new.out) (g.E.Edge.outside c.stopped.new.err)) c.in-Err.stop c.stopped.result.status c.stopped.ensures.status)

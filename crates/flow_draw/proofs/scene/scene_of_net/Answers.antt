@@ -9,4 +9,4 @@ returns-in-Ok g c =
 
 pub returns-in-Err : goal.returns-in-Err
 returns-in-Err g c =
-    net-stopped (g.F.Edge.outside c.args.shelf.now) (g.F.Edge.outside c.load.new.shelf) c.args.name.now None c.in-Err.stop c.in-Err.ensures
+    net-stopped c.args.own.now (g.F.Edge.outside c.args.shelf.now) (g.F.Edge.outside c.load.new.shelf) c.args.name.now None c.in-Err.stop c.in-Err.ensures

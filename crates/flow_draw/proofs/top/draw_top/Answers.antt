@@ -8,7 +8,7 @@ pub returns-in-Ok : goal.returns-in-Ok
 returns-in-Ok g c =
     let o = g.O.Edge.outside c.args.out.now in
     let n = g.O.Edge.outside c.print.new.out in
-    let call = call_of c.args.words.now (g.F.Edge.outside c.args.shelf.now) (g.F.Edge.outside c.picture.new.shelf) o n in
+    let call = call_of c.args.words.now c.args.own.now (g.F.Edge.outside c.args.shelf.now) (g.F.Edge.outside c.picture.new.shelf) o n in
     let prints = subst (λ (bytes : List ℕ). Prints o n bytes c.print.result) c.deref.ensures.value c.print.ensures in
     let ends = ends-printed call c.in-Ok.text.items c.print.result c.in-Ok.ensures prints in
     record {
@@ -20,7 +20,7 @@ returns-in-Ok g c =
 pub returns-in-Err : goal.returns-in-Err
 returns-in-Err g c =
     let o = g.O.Edge.outside c.args.out.now in
-    let call = call_of c.args.words.now (g.F.Edge.outside c.args.shelf.now) (g.F.Edge.outside c.picture.new.shelf) o o in
+    let call = call_of c.args.words.now c.args.own.now (g.F.Edge.outside c.args.shelf.now) (g.F.Edge.outside c.picture.new.shelf) o o in
     record {
       ends = (c.in-Err.ensures, refl {a = o});
       complete = λ faults valid. complete (c.players_come_to_one_outcome.ensures c.standard_components_come_to_one_outcome.ensures)

@@ -5,7 +5,7 @@ use Rattle.clap.specs.Walk.{Rule, rule_of}
 use Rattle.clap.specs.declared.builder.arg.Arg.{Arg}
 use Rattle.clap.specs.declared.builder.command.Command.{Command}
 use Rattle.flow_words.specs.Arguments.{rule_by}
-use Rattle.flow_words.specs.declared.argument.Shape.TheVariants.{Flag, Name}
+use Rattle.flow_words.specs.declared.argument.Shape.TheVariants.{Flag, Name, Valued}
 use Rattle.flow_draw.proofs.words.line.Goals as goal
 
 -- An argument of this rule is added to a command that is this one.
@@ -24,5 +24,7 @@ returns c =
     c.net_file.ensures.rule c.net_file.ensures.local c.in_ok-line.ensures in
     let two = added c.in_ok-line.line c.in_ok-line-2.line c.dot.result (with_rules (rule_by Name (codes "NETFILE") ∷ [])) (rule_by Flag (codes "dot")) one
     c.dot.ensures.rule c.dot.ensures.local c.in_ok-line-2.ensures in
-    added c.in_ok-line-2.line c.in_ok-line-3.line c.journal.result (with_rules (rule_by Name (codes "NETFILE") ∷ rule_by Flag (codes "dot") ∷ [])) _ two
-    c.journal.ensures.rule c.journal.ensures.local c.in_ok-line-3.ensures
+    let three = added c.in_ok-line-2.line c.in_ok-line-3.line c.journal.result (with_rules (rule_by Name (codes "NETFILE") ∷ rule_by Flag (codes "dot") ∷ [])) (rule_by Valued (codes "journal")) two
+    c.journal.ensures.rule c.journal.ensures.local c.in_ok-line-3.ensures in
+    added c.in_ok-line-3.line c.in_ok-line-4.line c.fold.result (with_rules (rule_by Name (codes "NETFILE") ∷ rule_by Flag (codes "dot") ∷ rule_by Valued (codes "journal") ∷ [])) _ three
+    c.fold.ensures.rule c.fold.ensures.local c.in_ok-line-4.ensures

@@ -1,7 +1,9 @@
 use Rattle.std.proofs.Common.{List, Some, ap, refl, subst, sym, ◌∙◌}
-use Rattle.std.specs.Option.{option_map}
+use Rattle.std.specs.Option.{IfSome, option_map}
+use Rattle.std.specs.declared.option.Option.{Option}
 use Rattle.flow_plan.specs.declared.kind.KindSpec.{KindSpec}
-use Rattle.flow_words.specs.Words.{Check, Judge}
+use Rattle.flow_words.specs.Words.{Check, IsWithinBounds, Judge, asked_by}
+use Rattle.flow_words.specs.declared.asked.Command.{Command}
 use Rattle.flow_words.specs.declared.asked.Command.TheVariants as commands
 use Rattle.flow_load.specs.Prepare.{IsReadyAgain}
 use Rattle.flow_load.proofs.Befores.{asks-as, on-file, offered-file}
@@ -12,6 +14,16 @@ returns-in-Run-clause-prepares g c = λ own offered recorded empty.
     let run = c.in-Run in
     let some = c.in-Ok-Some.field-0-is ∙ ap Some run.is in
     c.in-Err-runnable.ensures.reads own offered c.args.words.now recorded (asks-as c.args.words.now _ (commands.Run run.asked) c.in-Ok-Some.ensures.words some) empty
+
+pub returns-in-Ok-clause-prepares : goal.returns-in-Ok-clause-prepares
+returns-in-Ok-clause-prepares g c = λ own offered.
+    let run = c.in-Run in
+    let some = c.in-Ok-Some.field-0-is ∙ ap Some run.is in
+    record {
+      asks = asks-as c.args.words.now _ (commands.Run run.asked) c.in-Ok-Some.ensures.words some;
+      few = subst (λ (found : Option Command). IfSome found (λ command. IsWithinBounds (asked_by command))) some c.in-Ok-Some.ensures.bounds;
+      ready = c.in-Ok.ensures.reads own offered;
+    }
 
 pub returns-in-Check-clause-prepares : goal.returns-in-Check-clause-prepares
 returns-in-Check-clause-prepares g c = λ own offered recorded empty.

@@ -1,14 +1,10 @@
-use Rattle.std.proofs.Common.{◌∷◌, ◌∙◌, ◌≡◌, ℕ, List, length, inr, refl, sym, subst, arith}
+use Rattle.std.proofs.Common.{◌∷◌, List, inr, refl, subst}
 use Rattle.std.specs.Option.{option_map}
 use Rattle.flow_words.specs.Words.{Replay}
 use Rattle.flow_load.specs.Components.{AreComponents, contents_of}
 use Rattle.flow_load.specs.Offers.{Taped}
-use Rattle.flow_offer.specs.Processes.{own_processes}
-use Rattle.flow_load.proofs.Befores.{on-file, journal-file-of, journal-stopped, behind-net, behind-journal, between-of, miscounted, tapes-of, tapes-stopped, inputs-stopped, ready, unmade}
+use Rattle.flow_load.proofs.Befores.{on-file, journal-file-of, journal-stopped, behind-net, behind-journal, between-of, tapes-of, tapes-stopped, inputs-stopped, ready, unmade}
 use Rattle.flow_load.proofs.before.replayable.Goals as goal
-
-counts-differ : (a b x y : ℕ) → a ≡ x → b ≡ y → (a ≡ b → ⊥) → x ≡ y → ⊥
-counts-differ a b x y one other differ same = differ (one ∙ same ∙ sym other)
 
 pub returns-in-Err : goal.returns-in-Err
 returns-in-Err g c = λ words own recorded offered asks empty.
@@ -30,25 +26,7 @@ returns-in-Err-read_tapes g c =
     let journal = c.in-Ok-read_journal.journal in
     tapes-stopped c.args.kinds.now o low (g.F.Edge.outside c.read_tapes.new.shelf) c.args.name.now c.args.kept.now l.0 j.0 c.in-Ok.file.text c.in-Ok.file.plan journal
     (behind-net o mid low c.args.name.now c.args.kept.now l.0 j.0 l.1 j.1) l.2 (journal-file-of o mid c.args.name.now l.0 c.args.kept.now j.0 journal l.1 j.2)
-    (option_map (λ s. s.now) c.args.tapes) c.in-Err-read_tapes.stop c.in-Err-read_tapes.ensures
-
-pub returns-then-len-count_own : goal.returns-then-len-count_own
-returns-then-len-count_own g c = λ words own recorded offered asks empty.
-    let o = g.F.Edge.outside c.args.shelf.now in
-    let mid = g.F.Edge.outside c.load.new.shelf in
-    let low = g.F.Edge.outside c.read_journal.new.shelf in
-    let deep = g.F.Edge.outside c.read_tapes.new.shelf in
-    let l = c.in-Ok.ensures in
-    let j = c.in-Ok-read_journal.ensures in
-    let t = c.in-Ok-read_tapes.ensures in
-    let journal = c.in-Ok-read_journal.journal in
-    let named = option_map (λ s. s.now) c.args.tapes in
-    let tapes = c.in-Ok-read_tapes.tapes.items in
-    let before = behind-net o mid low c.args.name.now c.args.kept.now l.0 j.0 l.1 j.1 in
-    let is_journal = journal-file-of o mid c.args.name.now l.0 c.args.kept.now j.0 journal l.1 j.2 in
-    miscounted c.args.kinds.now o low deep c.args.name.now c.args.kept.now l.0 j.0 c.in-Ok.file.text c.in-Ok.file.plan journal before l.2 is_journal named t.0 tapes c.len-then-len-count_own.result
-    t.1 t.2 (omega (arith, c.len-then-len-count_own.ensures, c.in-Ok-read_tapes.tapes.ok.0))
-    (counts-differ c.len.result c.count_own.result (length tapes) (length (own_processes c.args.kinds.now c.in-Ok.file.plan)) (omega (arith, c.len.ensures, c.in-Ok-read_tapes.tapes.ok.0)) c.count_own.ensures c.if-len-count_own.true) words own recorded offered asks empty
+    c.count_own-wanted.result c.count_own-wanted.ensures (option_map (λ s. s.now) c.args.tapes) c.in-Err-read_tapes.stop c.in-Err-read_tapes.ensures
 
 pub returns-in-Err-read_inputs : goal.returns-in-Err-read_inputs
 returns-in-Err-read_inputs g c = λ words own recorded offered asks empty.

@@ -1,10 +1,9 @@
 use Rattle.std.proofs.Common.{◌<◌, ◌∙◌, ◌++◌, ◌∷◌, [], rules, get_or, length, arith, ap}
-use Rattle.flow_runner.specs.declared.line.LinePass.{LinePass}
 use Rattle.flow_runner.specs.declared.lines.Post.{Post}
 use Rattle.flow_runner.specs.Lines.{pushes_of, IsPassAt}
 use Rattle.flow_runner.specs.Posts.{posts_of}
 use Rattle.flow_runner.proofs.Filled.{each-more, each-none}
-use Rattle.flow_runner.proofs.Posts.{any-default, pass-set}
+use Rattle.flow_runner.proofs.Posts.{pass-set}
 use Rattle.flow_runner.proofs.together.fill.Goals as goal
 
 pub loop-process-init : goal.loop-process-init

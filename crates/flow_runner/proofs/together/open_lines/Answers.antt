@@ -1,4 +1,4 @@
-use Rattle.std.proofs.Common.{◌≡◌, ◌≤◌, ◌++◌, ◌∷◌, [], ◌∙◌, All, sym, ap, subst, arith, length, length-append, vec_capacity}
+use Rattle.std.proofs.Common.{◌≡◌, ◌≤◌, ◌++◌, ◌∷◌, [], ◌∙◌, All, sym, ap, subst, arith, length, length-append}
 use Rattle.flow_limits.specs.declared.TheConstants.{WORKER_LIMIT}
 use Rattle.flow_floor.proofs.Crews.{all-push}
 use Rattle.flow_runner.specs.Lines.{line_room, parts_of, AreAllPasses, IsPassAt}

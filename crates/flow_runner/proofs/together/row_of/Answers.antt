@@ -1,9 +1,8 @@
-use Rattle.std.proofs.Common.{◌≡◌, ◌≢◌, ◌⊎◌, ℕ, ◌+◌, ◌<◌, ◌≤◌, ◌∷◌, [], ◌∙◌, List, rules, get_or, set, get_or-set_same, get_or-set_other, sym, ap, subst, arith, inl, inr, length, length-append, length-set}
+use Rattle.std.proofs.Common.{◌≡◌, ℕ, ◌+◌, ◌<◌, ◌≤◌, ◌∷◌, [], ◌∙◌, rules, get_or, set, get_or-set_same, get_or-set_other, sym, ap, subst, arith, inl, inr, length, length-append, length-set}
 use Rattle.std.proofs.lemmas.Bool.{cases_eq}
 use Rattle.flow_runner.specs.declared.line.LinePass.{LinePass}
 use Rattle.flow_runner.specs.declared.lines.Post.{Post}
 use Rattle.flow_runner.specs.Lines.{parts_of, IsPassAt}
-use Rattle.flow_runner.specs.Posts.{ArePassesAt}
 use Rattle.flow_runner.proofs.Posts.{any-default, pass-set, push-each}
 use Rattle.flow_runner.proofs.together.row_of.Goals as goal
 

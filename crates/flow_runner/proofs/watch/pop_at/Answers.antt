@@ -3,8 +3,14 @@ use Rattle.flow_runner.specs.declared.line.LinePass.{LinePass}
 use Rattle.flow_runner.specs.declared.lines.Post.{Post}
 use Rattle.flow_runner.specs.Lines.{IsPassAt}
 use Rattle.flow_runner.proofs.Followed.{pop-tells}
-use Rattle.flow_runner.proofs.Posts.{any-default}
+use Rattle.flow_runner.proofs.Posts.{any-default, pass-set}
 use Rattle.flow_runner.proofs.watch.pop_at.Goals as goal
+
+pub returns-clause-passes : goal.returns-clause-passes
+returns-clause-passes g c =
+    let posts = c.args.lines.now.posts.items in
+    let here : (d : Post) → IsPassAt (get_or posts c.args.number d).line c.pop.new.pass = λ d. search rules in
+    pass-set posts c.args.passes.now.items c.args.number c.pop.new.pass c.requires.passes here
 
 pub returns-clause-popped : goal.returns-clause-popped
 returns-clause-popped g c =

@@ -1,9 +1,8 @@
-use Rattle.std.proofs.Common.{◌≡◌, ◌∙◌, arith, map, string_bytes, None}
-use Rattle.std.proofs.lemmas.Grind.{common_steps}
+use Rattle.std.proofs.Common.{◌≡◌, ◌∙◌, map, string_bytes, None}
 use Rattle.std.specs.Option.{option_map}
 use Rattle.clap.specs.Words.{app_of, found_of, rows_of}
 use Rattle.flow_words.specs.Words.{asked_by, command_of}
-use Rattle.flow_words.proofs.Laws.{asks, read-as}
+use Rattle.flow_words.proofs.Laws.{asks, none-as, read-as}
 use Rattle.flow_words.proofs.Numbers.{are-spelled}
 use Rattle.flow_words.proofs.words.command.Goals as goal
 
@@ -20,5 +19,6 @@ returns-in-Ok-clause-numbers c = are-spelled
 
 pub returns : goal.returns
 returns c =
-    let none : None ≡ command_of (map string_bytes c.args.words.now) = grind (arith, common_steps) in
+    let none : None ≡ command_of (map string_bytes c.args.words.now) =
+    none-as (app_of c.in_ok-line.field-0) (map string_bytes c.args.words.now) c.in-Err.error c.in_ok-line.ensures c.in-Err.ensures.kinds (λ memory. c.in_default.not-OutOfMemory (c.kind.ensures ∙ memory)) in
     record { words = none; numbers = are-spelled; bounds = tt; lines = λ given line once. none ∙ asks given (map string_bytes c.args.words.now) line once }

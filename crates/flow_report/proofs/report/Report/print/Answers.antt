@@ -1,20 +1,14 @@
-use Rattle.std.proofs.Common.{◌++◌, ◌∙◌, ap, length}
-use Rattle.flow_report.specs.Text.{Told, ended, verdict_line, total_line}
-use Rattle.flow_report.proofs.Printing.{print-of}
+use Rattle.std.proofs.Common.{map, ap, ◌∙◌, ◌++◌}
+use Rattle.std.specs.List.{flat_map}
+use Rattle.flow_report.specs.Text.{Told, ended, left_line}
+use Rattle.flow_report.specs.declared.report.LeftPacket.{LeftPacket}
+use Rattle.std.proofs.Common.{List}
+use Rattle.flow_report.proofs.Printing.{around-of}
 use Rattle.flow_report.proofs.report.Report.print.Goals as goal
 
 pub returns : goal.returns
 returns c =
-    print-of c.args.self.now c.as_slice-processes.result.now c.as_slice-connections.result.now c.as_slice.result.now c.as_slice-2.result.now c.as_slice-3.result.now c.as_slice-left.result.now
-    c.new-text.result.items c.put_verdict.new.text.items c.put_processes.new.text.items c.put_connections.new.text.items c.put_blocked.new.text.items c.put_waits.new.text.items c.put_failed.new.text.items
-    c.put_left.new.text.items c.put_total.new.text.items
-    (c.as_slice-processes.ensures ∙ ap (λ (r : Told). r.processes) c.self.view_is)
-    (c.as_slice-connections.ensures ∙ ap (λ (r : Told). r.connections) c.self.view_is)
-    (c.as_slice.ensures ∙ ap (λ (r : Told). r.blocked) c.self.view_is)
-    (c.as_slice-2.ensures ∙ ap (λ (r : Told). r.waits) c.self.view_is)
-    (c.as_slice-3.ensures ∙ ap (λ (r : Told). r.failed) c.self.view_is)
-    (c.as_slice-left.ensures ∙ ap (λ (r : Told). r.left) c.self.view_is)
-    c.new-text.ensures.items
-    (c.in_ok-put_verdict.ensures ∙ ap (λ (r : Told). c.new-text.result.items ++ ended (verdict_line r.verdict)) c.self.view_is)
-    c.in_ok-put_processes.ensures c.in_ok-put_connections.ensures c.in_ok-put_blocked.ensures c.in_ok-put_waits.ensures c.in_ok-put_failed.ensures c.in_ok-put_left.ensures
-    (c.in_ok-put_total.ensures ∙ ap (λ (r : Told). c.put_left.new.text.items ++ ended (total_line r.turns r.made r.dropped (length c.as_slice-left.result.now))) c.self.view_is)
+    let r = c.args.self.now in
+    around-of r (map (left_line r.processes r.connections) r.left) c.in_ok-text.text.items c.put_left.new.text.items c.put_end.new.text.items c.in_ok-text.ensures
+    (c.in_ok-put_left.ensures ∙ ap (λ (l : List LeftPacket). c.in_ok-text.text.items ++ flat_map ended (map (left_line r.processes r.connections) l)) (c.as_slice.ensures ∙ ap (λ (r : Told). r.left) c.self.view_is))
+    c.in_ok-put_end.ensures

@@ -1,6 +1,6 @@
 use Rattle.std.proofs.Common.{arith, ◌∙◌, [], ◌∷◌, All, sym, ap, subst, sum_by, length, length-append}
 use Rattle.flow_floor.proofs.Crews.{all-push}
-use Rattle.flow_runner.specs.Lines.{IsPassAt, IsNewPass, parts_of}
+use Rattle.flow_runner.specs.Lines.{IsPassAt, IsNewPass, parts_of, processes_at}
 use Rattle.flow_runner.proofs.Fairs.{forks}
 use Rattle.flow_runner.proofs.Lined.{sum-push}
 use Rattle.flow_runner.proofs.line.Line.cut.Goals as goal
@@ -21,8 +21,8 @@ loop-i-preserved c = let i = c.loop-i.invariant in let e = c.another-pass.ensure
       parts = omega (arith, sum-push parts_of c.loop-i.passes.items (record { pass = c.another-pass.result }), i.parts, ap (λ xs. sum_by parts_of xs) items, one);
       long = omega (arith, length-append c.loop-i.passes.items (record { pass = c.another-pass.result } ∷ []), i.long, ap (λ xs. length xs) items);
       room = c.push_reserved.ensures.capacity ∙ i.room;
-      new = (ap (λ v. v.put) old ∙ i.new.0, ap (λ v. v.taken) old ∙ i.new.1);
-      fresh = subst (All IsNewPass) (sym items) (all-push IsNewPass c.loop-i.passes.items _ i.fresh (ap (λ v. v.put) new, ap (λ v. v.taken) new));
+      new = (ap (λ v. processes_at v.put) old ∙ i.new.0, ap (λ v. processes_at v.taken) old ∙ i.new.1);
+      fresh = subst (All IsNewPass) (sym items) (all-push IsNewPass c.loop-i.passes.items (record { pass = c.another-pass.result }) i.fresh (ap (λ v. processes_at v.put) new, ap (λ v. processes_at v.taken) new));
     }
 
 pub returns-clause-all : goal.returns-clause-all

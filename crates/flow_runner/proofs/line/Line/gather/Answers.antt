@@ -1,9 +1,8 @@
-use Rattle.std.proofs.Common.{[], ◌∷◌, ◌++◌, ◌∙◌, ap, arith, sum_by, sym, subst}
+use Rattle.std.proofs.Common.{◌≡◌, [], ◌∷◌, ◌++◌, ◌∙◌, ap, arith, rules, sym, subst}
 use Rattle.flow_runner.specs.declared.line.LinePass.{LinePass}
-use Rattle.flow_runner.specs.Fair.{times}
-use Rattle.flow_runner.specs.Lines.{IsPassAt, AreAllPasses, pushes_of, pops_of}
+use Rattle.flow_runner.specs.Lines.{IsPassAt, AreAllPasses, all_puts, all_takes, puts_of, takes_of}
 use Rattle.flow_runner.proofs.Fairs.{merges}
-use Rattle.flow_runner.proofs.Lined.{both-passes, all-pair, sum-pair, times-append}
+use Rattle.flow_runner.proofs.Lined.{both-passes, all-pair, merged-pair}
 use Rattle.flow_runner.proofs.line.Line.gather.Goals as goal
 use Rattle.flow_runner.proofs.line.Line.gather.Goals.{In-Some}
 
@@ -21,6 +20,12 @@ loop-pass-preserved c = let i = c.loop-pass.invariant in let e = c.absorb.ensure
     let is = (both (goal.at.loop-pass-preserved c).In-Some).1 in
     record {
       all = all-pair line xs a b d ((e.queue.0 ∙ is.0.0, e.queue.2 ∙ is.0.1), omega (arith, ap (λ v. v.parts) e.rule, is.1), ap (λ v. v.most) e.rule ∙ is.2) (ap (λ v. v.parts) e.rule) (subst (λ ys. AreAllPasses line (ys ++ b ∷ [])) items i.all);
-      put = λ q. sum-pair (λ p. times q (pushes_of p)) xs a b d (ap (λ v. times q v.put) e.rule ∙ times-append q (pushes_of b) (pushes_of a)) ∙ ap (λ ys. sum_by (λ p. times q (pushes_of p)) (ys ++ b ∷ [])) (sym items) ∙ i.put q;
-      taken = λ q. sum-pair (λ p. times q (pops_of p)) xs a b d (ap (λ v. times q v.taken) e.rule ∙ times-append q (pops_of b) (pops_of a)) ∙ ap (λ ys. sum_by (λ p. times q (pops_of p)) (ys ++ b ∷ [])) (sym items) ∙ i.taken q;
+      put = merged-pair puts_of xs a b d (ap (λ v. v.put) e.rule) ∙ ap (λ ys. all_puts (ys ++ b ∷ [])) (sym items) ∙ i.put;
+      taken = merged-pair takes_of xs a b d (ap (λ v. v.taken) e.rule) ∙ ap (λ ys. all_takes (ys ++ b ∷ [])) (sym items) ∙ i.taken;
     }
+
+pub returns-clause-put : goal.returns-clause-put
+returns-clause-put c = let e : c.loop-pass.passes.items ≡ [] = search rules in ap (λ xs. all_puts (xs ++ c.loop-pass.first ∷ [])) (sym e) ∙ c.loop-pass.invariant.put
+
+pub returns-clause-taken : goal.returns-clause-taken
+returns-clause-taken c = let e : c.loop-pass.passes.items ≡ [] = search rules in ap (λ xs. all_takes (xs ++ c.loop-pass.first ∷ [])) (sym e) ∙ c.loop-pass.invariant.taken

@@ -1,0 +1,7 @@
+mod Quotes
+mod TextLaws
+mod LineLaws
+mod Steps
+mod Grammar
+mod Remains
+mod Joined

@@ -1,6 +1,0 @@
-use Rattle.std.proofs.Common.{◌≡◌, ◌-◌}
-use Rattle.flow_own.specs.Reading.{behind, many_at, entry_at}
-use Rattle.flow_own.proofs.read.pass_entries.Given as goal
-
-abbrev pub invariant-loop : goal.invariant-loop
-invariant-loop l = behind (many_at entry_at (l.count - l.counter) l.rest) ≡ behind (many_at entry_at l.count l.bytes)

@@ -1,0 +1,4 @@
+mod Places
+mod Making
+mod Options
+mod Supplying
