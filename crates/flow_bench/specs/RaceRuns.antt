@@ -9,7 +9,7 @@ use Rattle.flow_machine.specs.Starts.{StartsNet}
 use Rattle.flow_catalogue.specs.declared.standard.Std.{Std}
 use Rattle.flow_rig.specs.Networks.{AreComponentsOn, IsPlanOf}
 use Rattle.flow_bench.specs.declared.race.loaded.Loaded.{Loaded}
-use Rattle.flow_bench.specs.declared.race.size.Size.{Size}
+use Rattle.flow_bench.specs.declared.race.size.RaceSize.{RaceSize}
 use Rattle.flow_bench.specs.Loaded.{loaded_as, loaded_rules}
 
 -- The net is the network of this text at its start, each reader on these bytes, and each component with so many rounds of work.
@@ -35,7 +35,7 @@ pub record RunsBy (workers : ℕ) (start last : NetValue Loaded) : Type 0 where
   pub together : 1 ≤ workers → GoesToItsEnd start last
 
 -- The network of this text has started on so many lines as the size says, with so much work, was run by so many workers, and made so many turns in all.
-pub record MakesTurns (text : List ℕ) (size : Size) (turns : ℕ) : Type 0 where
+pub record MakesTurns (text : List ℕ) (size : RaceSize) (turns : ℕ) : Type 0 where
   pub bytes : List ℕ
   pub start : NetValue Loaded
   pub last : NetValue Loaded

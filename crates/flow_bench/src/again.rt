@@ -17,7 +17,7 @@ use flow_runner::{RunStop, run};
 use std::alloc::{AllocError, Global};
 use std::sync::Wait;
 use std::thread::Threads;
-pub use words::{Asked, asked_by};
+pub use words::{Comparison, asked_by};
 
 /// Why nothing was compared.
 #[derive(Clone, Copy, Debug, PartialEq, Eq)]

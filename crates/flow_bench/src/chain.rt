@@ -7,7 +7,7 @@ mod size;
 use crate::lines::input_of;
 use flow_machine::solo;
 use flow_rig::{TrialStop, started};
-pub use size::Size;
+pub use size::ChainSize;
 use std::alloc::{AllocError, Global};
 
 /// The text of a chain with so many processes that pass lines on.
@@ -46,7 +46,7 @@ fn turns_of(alloc: Global, text: &[u8], bytes: &[u8]) -> Result<u32, TrialStop>
 }
 
 /// Runs the chain of this size, and answers how many turns were made.
-pub fn run_chain(alloc: Global, size: Size) -> Result<u32, TrialStop> {
+pub fn run_chain(alloc: Global, size: ChainSize) -> Result<u32, TrialStop> {
     let text = text_of(alloc, size.passers)?;
     let input = input_of(alloc, size.lines)?;
     turns_of(alloc, text.as_bytes(), &input)

@@ -27,7 +27,7 @@ mod words;
 use crate::again::{AgainStop, is_same};
 use crate::chain::run_chain;
 use crate::race::{Raced, run_race};
-use crate::words::{Asked, asked_by};
+use crate::words::{Benchmark, asked_by};
 use flow_rig::TrialStop;
 use std::alloc::{AllocError, Global};
 use std::process::ExitCode;
@@ -80,7 +80,7 @@ fn told(printed: io::Result<()>, status: ExitCode) -> ExitCode {
     }
 }
 
-fn tell_chain(rt: &impl Print, alloc: Global, size: chain::Size) -> ExitCode {
+fn tell_chain(rt: &impl Print, alloc: Global, size: chain::ChainSize) -> ExitCode {
     match run_chain(alloc, size) {
         Ok(turns) => told(println!(rt; "turns {turns}"), ExitCode::SUCCESS),
         Err(stop) => stopped(stop),
@@ -90,7 +90,7 @@ fn tell_chain(rt: &impl Print, alloc: Global, size: chain::Size) -> ExitCode {
 fn tell_race<R: Print + Eprint + Threads + Wait + Clock + Sync>(
     rt: &R,
     alloc: Global,
-    size: race::Size,
+    size: race::RaceSize,
 ) -> ExitCode
     requires { IsSize size }
 {
@@ -108,7 +108,7 @@ fn tell_race<R: Print + Eprint + Threads + Wait + Clock + Sync>(
 fn tell_again<R: Alloc + Print + Files + Threads + Wait + Sync>(
     rt: &R,
     alloc: Global,
-    asked: again::Asked,
+    asked: again::Comparison,
 ) -> ExitCode
     requires { IsManned asked }
 {
@@ -129,9 +129,9 @@ fn main(rt: HostRuntime) -> ExitCode {
         return ExitCode::from(NO_MEMORY);
     };
     match asked_by(&words) {
-        Some(Asked::Chain(size)) => tell_chain(&rt, alloc, size),
-        Some(Asked::Race(size)) => tell_race(&rt, alloc, size),
-        Some(Asked::Again(asked)) => tell_again(&rt, alloc, asked),
+        Some(Benchmark::Chain(size)) => tell_chain(&rt, alloc, size),
+        Some(Benchmark::Race(size)) => tell_race(&rt, alloc, size),
+        Some(Benchmark::Again(asked)) => tell_again(&rt, alloc, asked),
         None => ExitCode::from(BAD_WORDS),
     }
 }

@@ -17,7 +17,7 @@ use flow_machine::{Closed, Net, solo};
 use flow_rig::TrialStop;
 use flow_runner::run;
 use loaded::Loaded;
-pub use size::Size;
+pub use size::RaceSize;
 use std::alloc::Global;
 use std::rt::Clock;
 use std::sync::Wait;
@@ -108,7 +108,7 @@ fn micros_since<R: Clock>(rt: &R, begun: Option<Instant>) -> u128 {
 pub fn run_race<R: Threads + Wait + Clock + Sync>(
     rt: &R,
     alloc: Global,
-    size: Size,
+    size: RaceSize,
 ) -> Result<Raced, TrialStop>
     requires { IsSize size }
     ensures { IfOk result (λ raced. MakesTurns BRANCHES.now size raced.turns) }

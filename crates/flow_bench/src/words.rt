@@ -6,24 +6,24 @@ use crate::{again, chain, race};
 
 /// What the words ask for.
 #[derive(Drop)]
-pub enum Asked<'a> {
+pub enum Benchmark<'a> {
     /// A chain of this size.
-    Chain(chain::Size),
+    Chain(chain::ChainSize),
     /// A race of this size.
-    Race(race::Size),
+    Race(race::RaceSize),
     /// A run by workers, and what it is compared with.
-    Again(again::Asked<'a>),
+    Again(again::Comparison<'a>),
 }
 
 /// What these words ask for: the first names what, the others how large it is, or over which files.
-pub fn asked_by(words: &[String]) -> Option<Asked<'_>>
+pub fn asked_by(words: &[String]) -> Option<Benchmark<'_>>
     ensures { IfSome result MayBeAsked }
 {
     let (first, others) = words.split_first()?;
     match first.as_str() {
-        "chain" => Some(Asked::Chain(chain::Size::named(others)?)),
-        "race" => Some(Asked::Race(race::Size::named(others)?)),
-        "again" => Some(Asked::Again(again::asked_by(others)?)),
+        "chain" => Some(Benchmark::Chain(chain::ChainSize::named(others)?)),
+        "race" => Some(Benchmark::Race(race::RaceSize::named(others)?)),
+        "again" => Some(Benchmark::Again(again::asked_by(others)?)),
         _ => None,
     }
 }

@@ -64,6 +64,7 @@ pub run-offered : (own : List Offer) (kinds : List KindSpec) (o a : Outside) (wo
     → IsOfferedPlan kinds job.plan
 run-offered own kinds o a words job asked same asks = subst (λ (k : List KindSpec). IsOfferedPlan k job.plan) same asks.ready.ready.file.over
 
+-- Its components are live ones of these kinds.
 pub run-live : (own : List Offer) (kinds : List KindSpec) (o a : Outside) (words : List (String Global)) (job : Job AnyKind) (asked : AskedRun) → specs_of own ≡ kinds → AsksRun (specs_of own) o a words job asked
     → (given : List (List ℕ)) × AreLive kinds job.plan given job.components.items
 run-live own kinds o a words job asked same asks = (asks.ready.given, subst (λ (k : List KindSpec). AreLive k job.plan asks.ready.given job.components.items) same asks.ready.live)
@@ -73,6 +74,7 @@ pub again-offered : (own : List Offer) (kinds : List KindSpec) (o a : Outside) (
     → IsOfferedPlan kinds again.job.plan
 again-offered own kinds o a name kept tapes again same ready = subst (λ (k : List KindSpec). IsOfferedPlan k again.job.plan) same ready.ready.file.over
 
+-- The components of a replay are standard ones and players.
 pub again-components : (own : List Offer) (kinds : List KindSpec) (o a : Outside) (name kept : List ℕ) (tapes : _) (again : Again) → specs_of own ≡ kinds → IsReadyAgain (specs_of own) o a name kept tapes again
     → HasComponents kinds again.job.plan again.job.components.items
 again-components own kinds o a name kept tapes again same ready = subst (λ (k : List KindSpec). HasComponents k again.job.plan again.job.components.items) same (ready.given, again.tapes.items, ready.are_components)
@@ -116,6 +118,7 @@ alone-workers kinds o a words plan (goals.Make number workers bytes) start way a
 same-asked : (words : List (String Global)) (one other : Asked) → Asks words one → Asks words other → workers_asked one ≡ workers_asked other
 same-asked words one other asks asks_other = let same : one ≡ other = cc in ap workers_asked same
 
+-- Where the words ask for workers, some are to make the turns, and not too many.
 pub some-workers : (kinds : List KindSpec) (o a : Outside) (words : List (String Global)) (plan : Network) (g : Goal) (start : NetValue AnyKind) → IsUnderWayTo kinds o a words plan g start → AsksWorkers words
     → (1 ≤ workers_to g) × (workers_to g ≤ WORKER_LIMIT)
 some-workers kinds o a words plan (goals.Run asked) start way asks =

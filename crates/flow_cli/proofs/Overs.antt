@@ -105,6 +105,7 @@ make-over own old new words plan number workers bytes start worked ran said way 
 pub journal-writable : (own : List KindSpec) (plan : Network) (asked : AskedRun) (worked : Worked AnyKind) (ran : Ran AnyNet) → WasRunUnderWay own plan asked worked → LeavesAsRan own plan worked ran → IsWritable ran.journal
 journal-writable own plan asked worked ran was leaves = let way = was.4 in (leaves asked.workers was.3 way.components way.given way.live way.starts was.5).0.writable
 
+-- Its tapes have a file too.
 pub tapes-writable : (own : List KindSpec) (plan : Network) (asked : AskedRun) (worked : Worked AnyKind) (ran : Ran AnyNet) → WasRunUnderWay own plan asked worked → LeavesAsRan own plan worked ran
     → IsTapesWritable ran.tapes.items
 tapes-writable own plan asked worked ran was leaves = let way = was.4 in (leaves asked.workers was.3 way.components way.given way.live way.starts was.5).0.tapes_writable
@@ -119,6 +120,7 @@ run-ends own plan asked worked ran (Ok run) plan_is leaves same journal tapes te
     run-over own old new words plan asked start worked run way by (ap (λ (r : Ran AnyNet). r.plan) same ∙ plan_is) leaves_run
     (journal ∙ ap (λ (r : Ran AnyNet). journal_file asked.journal r.journal) (sym same)) (tapes ∙ ap (λ (r : Ran AnyNet). tapes_file asked.tapes r.tapes.items) (sym same)) telling
 
+-- Whatever comes of making the text of a make.
 pub make-ends : (plan : Network) (number : ℕ) (worked : Worked AnyKind) (ran : Ran AnyNet) (result : Result Said AllocError) → ran.plan ≡ plan → LeavesAsRan [] plan worked ran → IfOk result (SaysOfMake number ran)
     → IfOk result (MakeEnds plan number worked)
 make-ends plan number worked ran (Err e) plan_is leaves says = tt
@@ -130,6 +132,7 @@ no-memory-to own old new words plan (goals.Run asked) start way = λ recorded em
 no-memory-to own old new words plan (goals.Make number workers bytes) start way = λ recorded empty.
     inl (record { nothing = empty; files = ap (λ (o : Outside). o.files) way.shelf; created = ap (λ (o : Outside). o.created) way.shelf })
 
+-- So it is where the network has gone its way, and there is no memory for what is told of it.
 pub no-memory : (kinds : List KindSpec) (running : Running) (worked : Worked AnyKind) → EndsAsRan kinds running worked (Err NoMemory)
 no-memory kinds running worked own old new words start same way by =
     no-memory-to own old new words running.plan running.goal start (subst (λ (k : List KindSpec). IsUnderWayTo k old new words running.plan running.goal start) (sym same) way)
@@ -141,6 +144,7 @@ ends-run kinds running asked worked run is ends own old new words start same way
     subst (λ (k : List KindSpec). HasRun k old new words run) (sym same)
     (ends old new words start (subst (λ (g : Goal). IsUnderWayTo kinds old new words running.plan g start) is way) (subst (λ (g : Goal). RanBy (workers_to g) start worked) is by))
 
+-- So it is of a make.
 pub ends-make : (kinds : List KindSpec) (running : Running) (number workers bytes : ℕ) (worked : Worked AnyKind) (said : Said) → running.goal ≡ goals.Make number workers bytes → MakeEnds running.plan number worked said
     → EndsAsRan kinds running worked (Ok (dones.Said said))
 ends-make kinds running number workers bytes worked said is ends own old new words start same way by =
@@ -151,6 +155,7 @@ pub was-run : (kinds : List KindSpec) (running : Running) (asked : RunCommand) (
 was-run kinds running asked worked is was =
     (was.0, was.1, was.2, was.3, subst (λ (g : Goal). IsUnderWayTo kinds was.0 was.1 was.2 running.plan g was.3) is was.4, subst (λ (g : Goal). RanBy (workers_to g) was.3 worked) is was.5)
 
+-- A make that was under way had a plan of standard kinds alone, and its own input.
 pub was-make : (kinds : List KindSpec) (running : Running) (number workers bytes : ℕ) (worked : Worked AnyKind) → running.goal ≡ goals.Make number workers bytes → WasUnderWay kinds running worked
     → IsOfferedPlan [] running.plan × (bytes ≡ length (made_input number))
 was-make kinds running number workers bytes worked is was =

@@ -98,6 +98,7 @@ standard-fit plan given standard are = record {
       record { inputs = fits.inputs; outputs = fits.outputs; used = fits.uses; can_start = fits.starts };
 }
 
+-- So a plan starts well with them.
 pub standard-well : Laws → (own : List KindSpec) (plan : Network) (given : List (List ℕ)) (standard : List Std) → IsOfferedPlan own plan → AreStandard plan given standard → StartsWell std_rules plan standard
 standard-well laws own plan given standard offered are = laws.starts plan standard offered.valid (standard-fit plan given standard are)
 
@@ -105,6 +106,7 @@ standard-well laws own plan given standard offered are = laws.starts plan standa
 pub are-first : (plan : Network) (given : List (List ℕ)) (standard : List Std) → AreStandard plan given standard → AreFirst standard
 are-first plan given standard are p component at = let is = are.each p component at in made-first plan p is.2.process is.0 component is.2.made
 
+-- Each is the first one of its own process.
 pub are-first-of : (plan : Network) (given : List (List ℕ)) (standard : List Std) → AreStandard plan given standard → AreFirstOf plan standard
 are-first-of plan given standard are p component at = let is = are.each p component at in record { process = is.2.process; there = is.2.there; file = is.0; made = is.2.made }
 

@@ -16,6 +16,7 @@ pub record TapedBelow (own : List KindSpec) (plan : Network) (bodies : List (Bod
   pub tapes_are : tapes ≡ map (tape_by bodies) (own_below own plan k)
   pub recorded : (p : ℕ) → p < k → is_some (own_place own plan p) ≡ true → IsRecordedAt bodies p
 
+-- Below the first process there are none.
 pub none-below : (own : List KindSpec) (plan : Network) (bodies : List (BodyValue AnyKind)) → TapedBelow own plan bodies 0 []
 none-below own plan bodies = record { tapes_are = refl; recorded = λ p less. absurd (omega (arith, less)) }
 

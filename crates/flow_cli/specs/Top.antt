@@ -39,7 +39,7 @@ use Rattle.flow_cli.specs.Makes.{make_text, IsRunOfMade}
 use Rattle.flow_cli.specs.Workers.{IsMadeBy, IsMadeAsAsked, IsMadeByNobody}
 use Rattle.flow_cli.specs.declared.ran.PrintedReport.{PrintedReport}
 use Rattle.flow_cli.specs.declared.ran.Ran.{Ran}
-use Rattle.flow_cli.specs.declared.run.Kept.{Kept}
+use Rattle.flow_cli.specs.declared.run.KeptFile.{KeptFile}
 use Rattle.flow_cli.specs.declared.run.Said.{Said}
 use Rattle.flow_cli.specs.declared.run.Unwritten.{Unwritten}
 use Rattle.flow_cli.specs.declared.run.Done.{Done}
@@ -160,7 +160,7 @@ Says w text status =
     SaysSpelling w text status ⊎ SaysAgain w text status ⊎ SaysMade w text status ⊎ SaysJudged w text status ⊎ SaysPage w text status
 
 -- A file that a run keeps for a replay as the code holds it, where it was named.
-abbrev pub kept_file : Option Kept → List Filled
+abbrev pub kept_file : Option KeptFile → List Filled
 kept_file None = []
 kept_file (Some kept) = (kept.name.now, kept.bytes.items) ∷ []
 

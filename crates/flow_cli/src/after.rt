@@ -10,7 +10,7 @@ ghost use Rattle.flow_cli.specs.Top.{kept_file, outputs_of_run};
 
 use crate::live::LiveNet;
 use crate::ran::PrintedReport;
-use crate::run::{Kept, Unwritten};
+use crate::run::{KeptFile, Unwritten};
 use flow_load::{Output, Status, Stop, write_files};
 use flow_own::Part;
 use flow_plan::KindSpec;
@@ -37,7 +37,10 @@ pub fn write_outputs<F: Shelf, P: Part>(
 }
 
 // Adds a file that is kept for a replay, where it was named.
-fn add_kept<'a>(outputs: &mut Vec<Output<'a>>, kept: &'a Option<Kept<'a>>) -> Result<(), AllocError>
+fn add_kept<'a>(
+    outputs: &mut Vec<Output<'a>>,
+    kept: &'a Option<KeptFile<'a>>,
+) -> Result<(), AllocError>
     ensures { OnOk result (map output_of outputs.new.items ≡ map output_of outputs.old.items ++ kept_file kept.now) }
 {
     if let Some(kept) = kept {

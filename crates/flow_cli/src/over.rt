@@ -14,7 +14,7 @@ use crate::begin::{Goal, Running};
 use crate::live::{LiveNet, LiveWorked};
 use crate::made::said_of_make;
 use crate::ran::{Ran, told};
-use crate::run::{Done, Kept, Said, Unwritten};
+use crate::run::{Done, KeptFile, Said, Unwritten};
 use flow_journal::Journal;
 use flow_load::Stop;
 use flow_own::{Part, Tape};
@@ -113,7 +113,7 @@ fn kept_files<'a, N>(
     alloc: Global,
     ran: &Ran<N>,
     asked: RunCommand<'a>,
-) -> Result<(Option<Kept<'a>>, Option<Kept<'a>>), AllocError>
+) -> Result<(Option<KeptFile<'a>>, Option<KeptFile<'a>>), AllocError>
     requires journal { IsWritable ran.now.journal }
     requires tapes { IsTapesWritable ran.now.tapes.items }
     ensures journal { IfOk result (λ kept. kept_file kept.0 ≡ journal_file (run_by asked.entry).journal ran.now.journal) }
@@ -130,7 +130,7 @@ fn keep_tapes<'a>(
     alloc: Global,
     tapes: &[Tape],
     name: Option<&'a str>,
-) -> Result<Option<Kept<'a>>, AllocError>
+) -> Result<Option<KeptFile<'a>>, AllocError>
     requires { IsTapesWritable tapes.now }
     ensures { IfOk result (λ kept. kept_file kept ≡ tapes_file (option_map (λ s. s.now) name.entry) tapes.now) }
 {
@@ -138,7 +138,7 @@ fn keep_tapes<'a>(
         None => Ok(None),
         Some(name) => {
             let bytes = to_bytes(alloc, tapes)?;
-            Ok(Some(Kept { name, bytes }))
+            Ok(Some(KeptFile { name, bytes }))
         }
     }
 }
@@ -148,7 +148,7 @@ fn keep<'a>(
     alloc: Global,
     journal: &Journal,
     name: Option<&'a str>,
-) -> Result<Option<Kept<'a>>, AllocError>
+) -> Result<Option<KeptFile<'a>>, AllocError>
     requires { IsWritable journal.now }
     ensures { IfOk result (λ kept. kept_file kept ≡ journal_file (option_map (λ s. s.now) name.entry) journal.now) }
 {
@@ -156,7 +156,7 @@ fn keep<'a>(
         None => Ok(None),
         Some(name) => {
             let bytes = journal.to_bytes(alloc)?;
-            Ok(Some(Kept { name, bytes }))
+            Ok(Some(KeptFile { name, bytes }))
         }
     }
 }

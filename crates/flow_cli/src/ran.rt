@@ -165,7 +165,7 @@ fn account_of<K: Component>(
     ensures journal { IfOk result (λ account. IsJournalOfNet closed.now.net account.journal) }
 {
     // Its contract says that no net has made more turns than a run may have, and so that the journal has a file.
-    let _few = closed.net.turns_made();
+    let _turns = closed.net.turns_made();
     Ok(NetAccount {
         report: report_of(alloc, plan, closed)?,
         journal: Journal::merge(alloc, &closed.net)?,
@@ -210,7 +210,8 @@ fn no_tape(alloc: Global, net: &Net<Unmixed<Std>>, process: u32) -> Result<Tape,
     if process >= net.processes() {
         return Ok(Tape::new(alloc));
     }
-    let _standard = net.body(process).component().component();
+    // Its contract says that no component of such a network has a tape.
+    let _component = net.body(process).component().component();
     Ok(Tape::new(alloc))
 }
 

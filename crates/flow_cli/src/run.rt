@@ -28,7 +28,7 @@ use std::alloc::{AllocError, Global};
 
 /// A file that a run keeps for a replay: that of its journal, or that of its tapes.
 #[derive(Drop)]
-pub struct Kept<'a> {
+pub struct KeptFile<'a> {
     pub name: &'a str,
     pub bytes: Vec<u8>,
 }
@@ -51,8 +51,8 @@ pub struct Said {
 /// A run that is over, the files of its journal and of its tapes where they were named, and how its report is to be told. Nothing of it is written yet.
 pub struct Unwritten<'a, N> {
     pub ran: Ran<N>,
-    pub journal: Option<Kept<'a>>,
-    pub tapes: Option<Kept<'a>>,
+    pub journal: Option<KeptFile<'a>>,
+    pub tapes: Option<KeptFile<'a>>,
     /// How its report is to be told.
     pub telling: ReportCommand<'a>,
 }

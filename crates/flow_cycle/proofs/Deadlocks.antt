@@ -28,10 +28,12 @@ use Rattle.flow_cycle.proofs.Walking.{Found, walks, one-cycle}
 
 -- Who waits is whom it is said of.
 
+-- Who waits for a sender is the process of which it was asked.
 pub sender-named : (p c : ℕ) (found : Option Sender) (w : Waits) → option_map (waits_for_sender p c) found ≡ Some w → w.process ≡ p
 sender-named p c (Some sender) w is = ap (λ (v : Waits). v.process) (sym (one-of (waits_for_sender p c sender) w is))
 sender-named p c None w is = absurd (cc)
 
+-- Who waits for a receiver is the process of which it was asked.
 pub receiver-named : (p c : ℕ) (found : Option PlanConnection) (w : Waits) → option_map (waits_for_receiver p c) found ≡ Some w → w.process ≡ p
 receiver-named p c (Some connection) w is = ap (λ (v : Waits). v.process) (sym (one-of (waits_for_receiver p c connection) w is))
 receiver-named p c None w is = absurd (cc)

@@ -20,6 +20,7 @@ sender-is s = let a : nat_eq s.process s.process ≡ true = grind (arith, nat_te
 pub head-open : (s : Sender) (senders : List Sender) → IsOpenSender s (s ∷ senders)
 head-open s senders = ap (λ b. b || list_any (is_sender s) senders) (sender-is s)
 
+-- So is one that stands at a place of it.
 pub place-open : (sender : Sender) (senders : List Sender) (k : ℕ) → slice_get senders k ≡ Some sender → IsOpenSender sender senders
 place-open sender [] k is = absurd (cc)
 place-open sender (s ∷ senders) zero is = let same : s ≡ sender = cc in ap (λ (t : Sender). is_sender sender t || list_any (is_sender sender) senders) same ∙ head-open sender senders

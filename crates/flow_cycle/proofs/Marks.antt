@@ -31,6 +31,7 @@ named-by plan net p x (blocks.Full c port) w is = receiver-named p c (slice_get 
 named-by plan net p x (blocks.Empty c port) w is = sender-named p c (first_on net.bodies (slice_get plan.connections c)) w is
 named-by plan net p x blocks.Dormant w is = wakes-named plan net.bodies p (watched (looks_of net.channels) x) w is
 
+-- Who waits in a net is the process of which it was asked.
 pub named-in : {K : Type 0} (plan : Plan) (net : NetValue K) (p : ℕ) (w : Waits) → waits_in plan net p ≡ Some w → w.process ≡ p
 named-in {K} plan net p w is = by (slice_get net.bodies p) is
   where

@@ -17,6 +17,7 @@ use Rattle.flow_cycle.proofs.Blocked.{is-there}
 pub find-here : {A : Type 0} (test : A → Bool) (xs : List A) (i : ℕ) (d : A) → i < length xs → test (get_or xs i d) ≡ true → find test (drop i xs) ≡ Some (get_or xs i d)
 find-here test xs i d below is = ap (find test) (drop_more xs i d below) ∙ ap (λ b. cond b (Some (get_or xs i d)) (find test (drop (i + 1) xs))) is
 
+-- Where this one fails, the first that passes stands behind it.
 pub find-next : {A : Type 0} (test : A → Bool) (xs : List A) (i : ℕ) (d : A) → i < length xs → test (get_or xs i d) ≡ false → find test (drop i xs) ≡ find test (drop (i + 1) xs)
 find-next test xs i d below is = ap (find test) (drop_more xs i d below) ∙ ap (λ b. cond b (Some (get_or xs i d)) (find test (drop (i + 1) xs))) is
 
@@ -25,6 +26,7 @@ pub rest-here : (p : ℕ) (way : List Waits) (i : ℕ) (d : Waits) → i < lengt
 rest-here p way i d below is =
     ap (rest_from p) (drop_more way i d below) ∙ ap (λ b. cond b (Some (get_or way i d ∷ drop (i + 1) way)) (rest_from p (drop (i + 1) way))) is ∙ ap Some (sym (drop_more way i d below))
 
+-- Where another process stands here, the rest of the way begins behind.
 pub rest-next : (p : ℕ) (way : List Waits) (i : ℕ) (d : Waits) → i < length way → nat_eq p (get_or way i d).process ≡ false → rest_from p (drop i way) ≡ rest_from p (drop (i + 1) way)
 rest-next p way i d below is = ap (rest_from p) (drop_more way i d below) ∙ ap (λ b. cond b (Some (get_or way i d ∷ drop (i + 1) way)) (rest_from p (drop (i + 1) way))) is
 
@@ -70,6 +72,7 @@ pub all-next : {A : Type 0} (test : A → Bool) (xs : List A) (i : ℕ) (r : Boo
 all-next test xs i r below told is =
     let at = told-at test xs i r below told in ap (list_all test) (drop-there xs i at.0 at.1) ∙ ap (λ b. b && list_all test (drop (i + 1) xs)) (sym at.2 ∙ is)
 
+-- Not all pass where this one fails.
 pub all-not : {A : Type 0} (test : A → Bool) (xs : List A) (i : ℕ) (r : Bool) → i < length xs → IfSome (slice_get xs i) (λ x. r ≡ test x) → r ≡ false → list_all test (drop i xs) ≡ false
 all-not test xs i r below told is =
     let at = told-at test xs i r below told in ap (list_all test) (drop-there xs i at.0 at.1) ∙ ap (λ b. b && list_all test (drop (i + 1) xs)) (sym at.2 ∙ is)
@@ -100,12 +103,14 @@ lt-is a b less = grind (arith, nat_tests)
 lt-not : (a : ℕ) → nat_lt a a ≡ false
 lt-not a = grind (arith, nat_tests)
 
+-- It is this place where this one passes and none before it does.
 pub position-here : {A : Type 0} (test : A → Bool) (xs : List A) (i : ℕ) (r : Bool) → i < length xs → IfSome (slice_get xs i) (λ x. r ≡ test x) → r ≡ true → list_any test (take i xs) ≡ false → position test xs ≡ Some i
 position-here test xs i r below told is none =
     let at = told-at test xs i r below told in
     let front = front-of test xs i at.0 none at.1 (sym at.2 ∙ is) in
     (λ j. cond (nat_lt (front.0 j) (length xs)) (Some (front.0 j)) None) ∙ ap (λ b. cond b (Some i) None) (lt-is i (length xs) front.1)
 
+-- Where none passes there is no such place.
 pub position-none : {A : Type 0} (test : A → Bool) (xs : List A) → list_any test xs ≡ false → position test xs ≡ None
 position-none test xs none =
     (λ j. cond (nat_lt (none-of test xs none j) (length xs)) (Some (none-of test xs none j)) None) ∙ ap (λ b. cond b (Some (length xs)) None) (lt-not (length xs))
@@ -120,6 +125,7 @@ any-more test (y ∷ ys) (suc k) x there is before = by (test y) (λ rest. any-m
     by false later before = later before
     by true later before = absurd (cc)
 
+-- Where none before this one passes, and this one fails, none up to here does.
 pub any-next : {A : Type 0} (test : A → Bool) (xs : List A) (i : ℕ) (r : Bool) → i < length xs → IfSome (slice_get xs i) (λ x. r ≡ test x) → r ≡ false → list_any test (take i xs) ≡ false → list_any test (take (i + 1) xs) ≡ false
 any-next test xs i r below told is none =
     let at = told-at test xs i r below told in
@@ -141,6 +147,7 @@ pub walk-back : (waits : ℕ → Option Waits) (n : ℕ) (way : List Waits) (p :
 walk-back waits zero way p rest some is = absurd (omega (arith, some))
 walk-back waits (suc n) way p rest some is = ap (λ r. went r (waits p) (λ w. walk waits n (way ++ w ∷ []) w.to)) is
 
+-- A walk goes on to the process that is waited for, where it hasn't come back.
 pub walk-on : (waits : ℕ → Option Waits) (n m : ℕ) (way : List Waits) (p : ℕ) (w : Waits) → n ≡ suc m → rest_from p way ≡ None → waits p ≡ Some w → walk waits n way p ≡ walk waits m (way ++ w ∷ []) w.to
 walk-on waits n m way p w one is at =
     ap (λ k. walk waits k way p) one ∙ ap (λ r. went r (waits p) (λ v. walk waits m (way ++ v ∷ []) v.to)) is ∙ ap (λ r. went None r (λ v. walk waits m (way ++ v ∷ []) v.to)) at

@@ -2,49 +2,19 @@
 ghost use Rattle.std.specs.Prelude.{◌≡◌, ◌<◌, ◌+◌, ◌||◌, ◌↔◌, [], true, false, drop, length, IfOk, IfSome, IsTrue, Some, None, slice_get, slice_set, option_map, option_and_then, position, find};
 ghost use Rattle.std.specs.List.{list_all};
 ghost use Rattle.flow_model.specs.States.{State};
-ghost use Rattle.flow_machine.specs.Nets.{block_at, looks_of};
+ghost use Rattle.flow_machine.specs.Nets.{looks_of};
 ghost use Rattle.flow_machine.specs.Inlets.{watched};
 ghost use Rattle.flow_plan.specs.declared.plan.Sender.{Sender};
 ghost use Rattle.flow_cycle.specs.Waiting.{waits_for_sender, waits_for_receiver, rest_from, walk};
-ghost use Rattle.flow_model.specs.Stages.{has_ended, owes_work};
+ghost use Rattle.flow_model.specs.Stages.{has_ended};
 ghost use Rattle.flow_cycle.specs.Nets.{not_ended, first_on, wakes_in, waits_in, is_blocked, is_stuck, cycle_in, AllMarked, IsReached, IsCycleOf};
 
 use crate::Waits;
+use crate::block::{block_of, has_ended};
 use flow_component::Component;
-use flow_machine::{Block, Body, Net, Stage};
+use flow_machine::{Block, Body, Net};
 use flow_plan::{Plan, Sender};
 use std::alloc::{AllocError, Global};
-
-fn has_ended(stage: Stage) -> bool
-    ensures { result ≡ has_ended stage }
-{
-    match stage {
-        Stage::Ended => true,
-        _ => false,
-    }
-}
-
-// Its work after an answer is still to come.
-fn owes_work(stage: Stage) -> bool
-    ensures { result ≡ owes_work stage }
-{
-    match stage {
-        Stage::Told(_) => true,
-        _ => false,
-    }
-}
-
-// What blocks a process. One whose work is still to come isn't blocked.
-fn block_of<K: Component>(net: &Net<K>, process: u32) -> Option<Block>
-    requires { process < length net.now.bodies }
-    ensures { result ≡ block_at net.now process }
-{
-    if owes_work(net.body(process).stage()) {
-        None
-    } else {
-        net.block(process)
-    }
-}
 
 // The process is there and hasn't ended.
 fn not_ended<K: Component>(net: &Net<K>, process: u32) -> bool

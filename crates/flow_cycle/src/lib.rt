@@ -1,13 +1,15 @@
-//! Who waits for whom in a deadlock, and the cycle in which they wait. The report of `flow_report` asks it. The
-//! contract is that of `cycle`: the cycle of a state in which nobody can take a turn, where there is one; a law says
-//! when there is exactly one.
+//! What blocks a process, who waits for whom in a deadlock, and the cycle in which they wait. The report of `flow_report`
+//! and the drawing of `flow_draw` ask it. The contracts are that of `block_of`, and that of `cycle`: the cycle of a state
+//! in which nobody can take a turn, where there is one; a law says when there is exactly one.
 #![tactic(auto)]
 
+mod block;
 mod find;
 
 ghost use Rattle.flow_cycle.specs.Laws.{DeadlocksWait};
 ghost use Rattle.flow_cycle.specs.Nets.{FindsCycles};
 
+pub use block::{block_of, has_ended};
 pub use find::cycle;
 use flow_component::Component;
 

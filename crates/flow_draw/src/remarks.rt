@@ -1,9 +1,8 @@
 //! What a drawing says of a network that stands still: what each process does, and how full each connection is.
-ghost use Rattle.std.specs.Prelude.{◌≡◌, ◌<◌, ◌++◌, length, IfOk, OnOk};
+ghost use Rattle.std.specs.Prelude.{◌≡◌, ◌++◌, IfOk, OnOk};
 ghost use Rattle.flow_cycle.specs.Nets.{IsReached};
 ghost use Rattle.flow_machine.specs.Joins.{processes_of};
-ghost use Rattle.flow_machine.specs.Nets.{block_at, looks_of};
-ghost use Rattle.flow_model.specs.Stages.{owes_work};
+ghost use Rattle.flow_machine.specs.Nets.{looks_of};
 ghost use Rattle.flow_model.specs.States.{State};
 ghost use Rattle.flow_report.specs.Of.{told_from};
 ghost use Rattle.flow_report.specs.States.{TellsWaits};
@@ -11,35 +10,13 @@ ghost use Rattle.flow_report.specs.Text.{status_text};
 ghost use Rattle.flow_draw.specs.States.{TellsOf, block_text, channel_said, connection_remark, process_mark, process_remark, process_said, waits_at, waits_in};
 
 use flow_component::Component;
-use flow_cycle::{Waits, cycle};
+use flow_cycle::{Waits, block_of, cycle};
 use flow_drawing::{Mark, Remark, Remarks, input_text, output_text};
 use flow_items::{Items, Text};
-use flow_machine::{Block, Net, Stage, Status};
+use flow_machine::{Block, Net, Status};
 use flow_plan::Plan;
 use flow_text::put_decimal;
 use std::alloc::{AllocError, Global};
-
-// Its work after an answer is still to come.
-fn owes_work(stage: Stage) -> bool
-    ensures { result ≡ owes_work stage }
-{
-    match stage {
-        Stage::Told(_) => true,
-        _ => false,
-    }
-}
-
-// What blocks a process. One whose work is still to come isn't blocked.
-fn block_of<K: Component>(net: &Net<K>, process: u32) -> Option<Block>
-    requires { process < length net.now.bodies }
-    ensures { result ≡ block_at net.now process }
-{
-    if owes_work(net.body(process).stage()) {
-        None
-    } else {
-        net.block(process)
-    }
-}
 
 fn status_text(status: Status) -> &'static [u8]
     ensures { result.now ≡ status_text status }

@@ -3,8 +3,7 @@ ghost use Rattle.flow_offer.specs.Kinds.{AreOwnKinds};
 
 use crate::explain::explain;
 use flow_draw::draw_top;
-use flow_explain::words_of;
-use flow_files::{FileShelf, StdSink};
+use flow_files::{FileShelf, StdSink, words_of};
 use flow_load::Status;
 use flow_plan::KindSpec;
 use std::alloc::Global;

@@ -1,12 +1,10 @@
 //! What the programs say on the standard error of a network file that is refused: the line at fault, and what would be
-//! right there; of a file that can't be read or written, where it is named; and how they get the words of their command
-//! line. The `main` of every program uses it. No contract speaks of what it says, and it never changes how a program
-//! ends.
+//! right there; and of a file that can't be read or written, where it is named. Every program uses it. No contract speaks
+//! of what it says, and it never changes how a program ends.
 #![tactic(auto)]
 
 mod bad;
 mod bytes;
-mod called;
 mod folders;
 mod forms;
 mod found;
@@ -33,7 +31,6 @@ mod texts;
 mod words;
 
 pub use bad::put_failed;
-pub use called::{expect_kept, words_of};
 pub use folders::put_folders;
 pub use may::Uses;
 pub use named::{Use, net_of, put_named};

@@ -12,37 +12,37 @@ enum Wanted {
 }
 
 /// A network file, the texts that are given its words, and what comes of it.
-struct Row {
+struct FillRow {
     net: &'static str,
     given: &'static [(&'static str, &'static str)],
     wanted: Wanted,
 }
 
-const ROWS: [Row; 13] = [
-    Row {
+const ROWS: [FillRow; 13] = [
+    FillRow {
         net: "flow 3\ninport LOG -> FILE Read(ReadLines)\n",
         given: &[("LOG", "access.log")],
         wanted: Wanted::Text("flow 2\n'access.log' -> FILE Read(ReadLines)\n"),
     },
     // A text beside the word stands where none is given, and no longer where one is.
-    Row {
+    FillRow {
         net: "flow 3\ninport SIZE '40' -> SIZE F\n",
         given: &[],
         wanted: Wanted::Text("flow 2\n'40' -> SIZE F\n"),
     },
-    Row {
+    FillRow {
         net: "flow 3\ninport SIZE '40' -> SIZE F\n",
         given: &[("SIZE", "7")],
         wanted: Wanted::Text("flow 2\n'7' -> SIZE F\n"),
     },
     // One word leads to two ports; a quote is doubled; blanks before the word are gone, and those behind the arrow stay.
-    Row {
+    FillRow {
         net: "flow 3\n  inport A->  X P\n\tinport  A  -> Y[2] Q\n",
         given: &[("A", "it's")],
         wanted: Wanted::Text("flow 2\n'it''s' ->  X P\n'it''s' -> Y[2] Q\n"),
     },
     // An outer input of a subnet stays one, and so do the lines round it.
-    Row {
+    FillRow {
         net: "# r\n\nflow  3 \nsubnet S\ninport A -> IN P(K)\nend\ninport A -> IN Q(S)\nQ OUT -> IN W",
         given: &[("A", "x")],
         wanted: Wanted::Text(
@@ -50,44 +50,44 @@ const ROWS: [Row; 13] = [
         ),
     },
     // What is no word's line by its name or its arrow stays, and the file of a `use` leaves an empty line.
-    Row {
+    FillRow {
         net: "flow 3\ninport 2A -> X P\ninport A X P\nuse 'letters.flow'\nuse letters\n",
         given: &[],
         wanted: Wanted::Text("flow 2\ninport 2A -> X P\ninport A X P\n\nuse letters\n"),
     },
     // A file of another version stays to the byte.
-    Row {
+    FillRow {
         net: "flow 2\r\ninport A -> X P",
         given: &[],
         wanted: Wanted::Text("flow 2\r\ninport A -> X P"),
     },
     // An empty text is one.
-    Row {
+    FillRow {
         net: "flow 3\ninport A -> X P\n",
         given: &[("A", "")],
         wanted: Wanted::Text("flow 2\n'' -> X P\n"),
     },
-    Row {
+    FillRow {
         net: "flow 3\ninport B 'b' -> X P\ninport A -> X P\n",
         given: &[],
         wanted: Wanted::Fault(FillFault::NoText(1)),
     },
-    Row {
+    FillRow {
         net: "flow 3\ninport A -> X P\n",
         given: &[("A", "x"), ("B", "y")],
         wanted: Wanted::Fault(FillFault::Unknown(1)),
     },
-    Row {
+    FillRow {
         net: "flow 3\ninport A -> X P\n",
         given: &[("A", "x"), ("A", "y"), ("B", "z")],
         wanted: Wanted::Fault(FillFault::Twice(1)),
     },
-    Row {
+    FillRow {
         net: "flow 3\ninport A -> X P\n",
         given: &[("A", "x\ny")],
         wanted: Wanted::Fault(FillFault::Unspelled(0, 1)),
     },
-    Row {
+    FillRow {
         net: "flow 2\n",
         given: &[("A", "x")],
         wanted: Wanted::Fault(FillFault::Unknown(0)),
@@ -105,7 +105,7 @@ fn all_given(alloc: Global, pairs: &[(&str, &str)]) -> Result<Vec<Given>, AllocE
 }
 
 // Whether the row comes to what it says.
-fn holds(alloc: Global, row: &Row) -> Result<bool, AllocError> {
+fn holds(alloc: Global, row: &FillRow) -> Result<bool, AllocError> {
     let given = all_given(alloc, row.given)?;
     match (fill(alloc, row.net.as_bytes(), &given), row.wanted) {
         (Ok(text), Wanted::Text(wanted)) => Ok(text.as_slice() == wanted.as_bytes()),

@@ -19,5 +19,6 @@ no-place : (found : Option Process) → is_some (option_and_then (λ (process : 
 no-place None = refl
 no-place (Some process) = refl
 
+-- So a plan has no processes of such kinds.
 pub none-own : (plan : Network) → own_processes [] plan ≡ []
 none-own plan = all-fail (λ p. is_some (own_place [] plan p)) 0 (length plan.processes) (λ p least most. no-place (slice_get plan.processes p))

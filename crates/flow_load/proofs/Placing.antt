@@ -52,16 +52,19 @@ one-made Is given k components bytes component are has is = record {
 pub standard-live : (own : List KindSpec) (plan : Network) (p : ℕ) (bytes : List ℕ) (component : AnyKind) → IsStandardAt plan p bytes component → IsLiveComponent own plan p bytes component
 standard-live own plan p bytes component is = subst (IsLiveComponent own plan p bytes) (sym is.1) is.2
 
+-- A standard component is so in a replay too.
 pub standard-played : (own : List KindSpec) (plan : Network) (p : ℕ) (bytes : List ℕ) (tape : Taped) (component : AnyKind) → IsStandardAt plan p bytes component
     → IsPlayedComponent own plan p bytes tape component
 standard-played own plan p bytes tape component is = subst (IsPlayedComponent own plan p bytes tape) (sym is.1) is.2
 
+-- So is a live part.
 pub part-live : (own : List KindSpec) (plan : Network) (p : ℕ) (bytes : List ℕ) (seen : Seen) (component : AnyKind) → IsOwnAt own plan p → IsPartAt plan p seen component
     → IsLiveComponent own plan p bytes component
 part-live own plan p bytes seen component is_own is =
     let same : is.0 ≡ is_own.process = (let a = is.1 in let b = is_own.there in cc) in
     subst (IsLiveComponent own plan p bytes) (sym is.2) (is_own, (seen, ap (λ (x : Process). part_at plan p x (Some seen)) same))
 
+-- And so is a player.
 pub player-played : (own : List KindSpec) (plan : Network) (p : ℕ) (bytes : List ℕ) (tape : Taped) (component : AnyKind) → IsOwnAt own plan p → IsPlayerAt plan p tape component
     → IsPlayedComponent own plan p bytes tape component
 player-played own plan p bytes tape component is_own is =
@@ -166,6 +169,7 @@ pub record TapeTaken (own : List KindSpec) (plan : Network) (tapes : List Taped)
   pub same : MatchOption tape (Unit {0}) (λ t. t.now ≡ tape_of own plan tapes p)
   pub left : rest ≡ drop (rank (is_own_at own plan) (p + 1)) tapes
 
+-- A process that isn't the caller's own takes no tape.
 pub none-taken : (own : List KindSpec) (plan : Network) (tapes : List Taped) (p : ℕ) (rest : List Taped) → is_own_at own plan p ≡ false → rest ≡ drop (rank (is_own_at own plan) p) tapes
     → TapeTaken own plan tapes p None rest
 none-taken own plan tapes p rest none is =
@@ -180,6 +184,7 @@ some-next tapes k old new (Some tape) below steps is =
     let cut : tape.now ∷ iter_rest new ≡ get_or tapes k [] ∷ drop (suc k) tapes = sym steps ∙ is ∙ drop-cons tapes k [] below in
     (refl, (let e : tape.now ≡ get_or tapes k [] = cc in e), (let e : iter_rest new ≡ drop (suc k) tapes = cc in e))
 
+-- One that is takes the next tape.
 pub some-taken : (own : List KindSpec) (plan : Network) (tapes : List Taped) (p : ℕ) (old new : Iter Taped) (tape : Option (Bor Taped)) → length tapes ≡ length (own_processes own plan)
     → p < length plan.processes → is_own_at own plan p ≡ true → iter_steps old tape new → iter_rest old ≡ drop (rank (is_own_at own plan) p) tapes → TapeTaken own plan tapes p tape (iter_rest new)
 some-taken own plan tapes p old new tape many below some steps is =
@@ -230,6 +235,7 @@ nearer (suc p) (suc k) below other =
     let less = nearer p k (omega (arith, below)) (λ same. other (ap suc same)) in
     omega (arith, less)
 
+-- Before the first process no part is held.
 pub none-held : {P : Type 0} (seen : P → Seen) (parts : List (Option P)) → HoldSoFar seen parts 0 []
 none-held seen parts = λ p part below at. absurd (omega (arith, below))
 
@@ -276,6 +282,7 @@ pub all-live : (own : List KindSpec) (plan : Network) (given : List (List ℕ)) 
     → AreLive own plan given components
 all-live own plan given components are = record { count = are.count; each = are.each }
 
+-- So are players, each with its own tape.
 pub all-played : (own : List KindSpec) (plan : Network) (given : List (List ℕ)) (tapes : List Taped) (components : List AnyKind) → length tapes ≡ length (own_processes own plan)
     → AreMade (λ p bytes component. IsPlayedComponent own plan p bytes (tape_of own plan tapes p) component) given (length plan.processes) components → AreComponents own plan given tapes components
 all-played own plan given tapes components many are = record {
@@ -306,5 +313,6 @@ one-place-more {P} count parts none = record {
   each p part (inl there) = none.each p part there
   each p part (inr last) = last.1
 
+-- Before the first process there is no place for a part.
 pub no-places : {P : Type 0} → AreNoParts {P = P} 0 []
 no-places = record { many = refl; each = λ p part there. absurd cc }

@@ -47,6 +47,7 @@ are-read-append told (x ∷ xs) ys p q (suc at) file there = are-read-append tol
 pub none-read : (told : Option Files) → AreRead told []
 none-read told at file there = absurd cc
 
+-- One file that was read is all of them.
 pub one-read : (told : Option Files) (file : Filled) → IsRead told FILE_LIMIT file → AreRead told (file ∷ [])
 one-read told file is zero other there = let same : file ≡ other = cc in subst (λ (f : Filled). IsRead told FILE_LIMIT f) same is
 one-read told file is (suc at) other there = absurd cc

@@ -30,6 +30,7 @@ fit-reads old new n l o files e same =
     ∙ ap (λ x. record old { open_name = new.open_name; left = x; opened = o }) (sym (ap (λ (x : Outside). x.left) e))
     ∙ ap (λ x. record old { open_name = new.open_name; left = new.left; opened = x }) same
 
+-- Likewise where a read failed.
 pub fit-failed-read : (old new : Outside) (n : Option Name) (l : Option (List ℕ)) (o files : List Logged) (name : Name)
     → new ≡ record old { open_name = n; left = l; opened = o; read_faults = new.read_faults; last_read_fault = Some name } → o ≡ old.opened ++ files
     → Rose old.read_faults new.read_faults → FailsToRead old new files name
@@ -41,6 +42,7 @@ fit-failed-read old new n l o files name e same rose = record {
   rose = rose;
 }
 
+-- Likewise what writing changes.
 pub fit-writes : (old new : Outside) (n : Option Name) (t : Option (List ℕ)) (f : Option Files) (c files : List Logged)
     → new ≡ record old { created_name = n; taken = t; files = f; created = c } → c ≡ old.created ++ files → OnlyWrites old new files
 fit-writes old new n t f c files e same =
@@ -50,6 +52,7 @@ fit-writes old new n t f c files e same =
     ∙ ap (λ x. record old { created_name = new.created_name; taken = new.taken; files = x; created = c }) (sym (ap (λ (x : Outside). x.files) e))
     ∙ ap (λ x. record old { created_name = new.created_name; taken = new.taken; files = new.files; created = x }) same
 
+-- Likewise where a write failed.
 pub fit-failed-write : (old new : Outside) (n : Option Name) (t : Option (List ℕ)) (f : Option Files) (c files : List Logged) (name : Name)
     → new ≡ record old { created_name = n; taken = t; files = f; created = c; write_faults = new.write_faults; last_write_fault = Some name }
     → c ≡ old.created ++ files → Rose old.write_faults new.write_faults → FailsToWrite old new files name

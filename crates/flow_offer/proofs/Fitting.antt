@@ -38,6 +38,7 @@ used-more plan p k = ap (filter (is_connected plan p)) (range-more k) ∙ filter
 pub used-yes : (plan : Network) (p k : ℕ) (xs ys : List ℕ) → is_connected plan p k ≡ true → xs ≡ used_outputs plan p k → ys ≡ xs ++ k ∷ [] → ys ≡ used_outputs plan p (k + 1)
 used-yes plan p k xs ys sends before is = is ∙ ap (λ (l : List ℕ). l ++ k ∷ []) before ∙ sym (used-more plan p k ∙ ap (λ (b : Bool). used_outputs plan p k ++ cond b (k ∷ []) []) sends)
 
+-- An output that sends to no connection is none of those that are used.
 pub used-no : (plan : Network) (p k : ℕ) (xs : List ℕ) → is_connected plan p k ≡ false → xs ≡ used_outputs plan p k → xs ≡ used_outputs plan p (k + 1)
 used-no plan p k xs open_ before = before ∙ sym (used-more plan p k ∙ ap (λ (b : Bool). used_outputs plan p k ++ cond b (k ∷ []) []) open_ ∙ append-nil (used_outputs plan p k))
 

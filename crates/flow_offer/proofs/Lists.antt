@@ -13,10 +13,12 @@ use Rattle.flow_net.specs.Kinds.{all_differ}
 use Rattle.flow_plan.specs.declared.kind.KindSpec.{KindSpec}
 use Rattle.flow_offer.specs.Kinds.{is_among, kind_names}
 
+-- Both hold.
 pub both : (a b : Bool) → a ≡ true → b ≡ true → (a && b) ≡ true
 both true b x y = y
 both false b x y = absurd (false≢true x)
 
+-- Neither of two holds where not one of them does.
 pub neither : (a b : Bool) → not (a || b) ≡ true → (a ≡ false) × (not b ≡ true)
 neither false b none = (refl, none)
 neither true b none = absurd (false≢true none)

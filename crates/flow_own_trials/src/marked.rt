@@ -16,14 +16,14 @@ use std::sync::atomic::{AtomicU64, Ordering};
 pub type Drops = Arc<AtomicU64, Global>;
 
 /// Counts its drop.
-struct Mark {
+struct DropMark {
     drops: Drops,
 }
 
-impl Drop for Mark {
+impl Drop for DropMark {
     fn drop(self) {
         self.drops.fetch_add(1, Ordering::SeqCst);
-        let Mark { drops: _ } = self;
+        let DropMark { drops: _ } = self;
     }
 }
 
@@ -41,7 +41,7 @@ pub enum Tells {
 #[derive(Drop)]
 pub struct Marked {
     alloc: Global,
-    mark: Mark,
+    mark: DropMark,
     tells: Tells,
     answers: u64,
     last: Option<Result<Wish, PartStop>>,
@@ -69,7 +69,7 @@ impl Marked {
         let drops = Arc::try_clone(drops)?;
         Ok(Marked {
             alloc,
-            mark: Mark { drops },
+            mark: DropMark { drops },
             tells,
             answers: 0,
             last: None,

@@ -29,9 +29,9 @@ impl LinePart for Twice {
 
 /// Puts texts as long as it may.
 #[derive(Drop)]
-struct Many;
+struct Flood;
 
-impl LinePart for Many {
+impl LinePart for Flood {
     fn line(&mut self, text: &[u8], out: &mut Texts) -> Result<(), LineStop> {
         for _ in 0..2_000_000u32 {
             out.put(text)?;
@@ -61,7 +61,7 @@ fn what_it_put_before_a_failure_stays(rt: HostRuntime) -> Result<(), Fail> {
 #[test]
 fn no_more_texts_wait_than_may(rt: HostRuntime) -> Result<(), Fail> {
     let alloc = rt.alloc();
-    let out = tried_line(alloc, Many, "a\n")?;
+    let out = tried_line(alloc, Flood, "a\n")?;
     let wanted = format!(in alloc; "own fault {TEXTS_FAULT}\n")?;
     assert_eq!(rt; out.as_str(), wanted.as_str());
     Ok(())

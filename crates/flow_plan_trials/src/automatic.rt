@@ -1,10 +1,10 @@
 // Automatic ports: each process has them, and they take no text and no element.
-use crate::calls::{Call, Row, check_begun, planned};
+use crate::calls::{Call, CallRow, check_begun, planned};
 use crate::checks::same;
 use flow_plan::{Connection, Plan};
 use std::process::Abort;
 
-const ELEMENTS: &[Row] = &[
+const ELEMENTS: &[CallRow] = &[
     (
         Call::Connect((b"P", b"*OUT", Some(0)), None, (b"Q", b"*IN", None)),
         "unknown port",
@@ -40,7 +40,7 @@ fn an_automatic_port_has_no_element(rt: HostRuntime) {
     check_begun(&rt, rt.alloc(), ELEMENTS);
 }
 
-const TEXTS: &[Row] = &[
+const TEXTS: &[CallRow] = &[
     (Call::Give(b"go", (b"P", b"*IN", None)), "unknown port"),
     (
         Call::Connect((b"P", b"OUT", None), None, (b"Q", b"*IN", None)),

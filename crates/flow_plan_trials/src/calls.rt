@@ -7,20 +7,20 @@ use std::alloc::Global;
 use std::process::Abort;
 
 /// A port of a process, and its element where there is one.
-pub type End = (&'static [u8], &'static [u8], Option<u32>);
+pub type PortName = (&'static [u8], &'static [u8], Option<u32>);
 
 /// A call of a builder.
 pub enum Call {
     /// A process of this name, of this kind.
     Process(&'static [u8], &'static [u8]),
     /// A connection from one port to another, of a capacity where there is one.
-    Connect(End, Option<u32>, End),
+    Connect(PortName, Option<u32>, PortName),
     /// A text for an input.
-    Give(&'static [u8], End),
+    Give(&'static [u8], PortName),
 }
 
 /// A call, and what it comes to, in a word.
-pub type Row = (Call, &'static str);
+pub type CallRow = (Call, &'static str);
 
 /// The processes S and T, which split, and P and Q, which pass on.
 pub const BEGUN: &[Call] = &[
@@ -73,7 +73,7 @@ pub fn empty(rt: &impl Abort, alloc: Global) -> PlanBuilder {
     PlanBuilder::new(alloc, kinds(rt, alloc))
 }
 
-fn port(rt: &impl Abort, alloc: Global, end: End) -> PortRef {
+fn port(rt: &impl Abort, alloc: Global, end: PortName) -> PortRef {
     PortRef {
         name: Text::from_slice(alloc, end.1).expect(rt, "no memory"),
         element: end.2,
@@ -85,9 +85,9 @@ pub fn connect(
     rt: &impl Abort,
     net: &mut PlanBuilder,
     alloc: Global,
-    from: End,
+    from: PortName,
     capacity: Option<u32>,
-    to: End,
+    to: PortName,
 ) -> Result<(), PlanStop> {
     let out = port(rt, alloc, from);
     let into = port(rt, alloc, to);
@@ -99,7 +99,7 @@ fn give(
     net: &mut PlanBuilder,
     alloc: Global,
     text: &[u8],
-    to: End,
+    to: PortName,
 ) -> Result<(), PlanStop> {
     assert!(rt; text.len() <= 1_048_576);
     let into = port(rt, alloc, to);
@@ -148,19 +148,19 @@ pub fn check_plan(rt: &impl Abort, alloc: Global, calls: &[Call], wanted: &str) 
     comes_to(rt, finished, wanted);
 }
 
-fn check_row(rt: &impl Abort, net: &mut PlanBuilder, alloc: Global, (call, wanted): &Row) {
+fn check_row(rt: &impl Abort, net: &mut PlanBuilder, alloc: Global, (call, wanted): &CallRow) {
     let made = make(rt, net, alloc, call);
     comes_to(rt, made, *wanted);
 }
 
 /// Checks what these calls come to, one behind the other.
-pub fn check(rt: &impl Abort, net: &mut PlanBuilder, alloc: Global, rows: &[Row]) {
+pub fn check(rt: &impl Abort, net: &mut PlanBuilder, alloc: Global, rows: &[CallRow]) {
     for row in rows {
         check_row(rt, net, alloc, row);
     }
 }
 
 /// Checks what these calls come to, behind those with which the processes S, T, P and Q begin.
-pub fn check_begun(rt: &impl Abort, alloc: Global, rows: &[Row]) {
+pub fn check_begun(rt: &impl Abort, alloc: Global, rows: &[CallRow]) {
     check(rt, &mut made(rt, alloc, BEGUN), alloc, rows);
 }

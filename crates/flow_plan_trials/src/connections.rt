@@ -1,10 +1,10 @@
 // Connections that are refused, and their neighbours.
-use crate::calls::{BEGUN, Call, Row, accepted, check, check_begun, comes_to, connect, made};
+use crate::calls::{BEGUN, Call, CallRow, accepted, check, check_begun, comes_to, connect, made};
 use flow_net::{PlanBuilder, PlanStop};
 use std::alloc::Global;
 use std::process::Abort;
 
-const PORTS: &[Row] = &[
+const PORTS: &[CallRow] = &[
     (
         Call::Connect((b"X", b"OUT", Some(0)), None, (b"T", b"IN", Some(0))),
         "unknown process",
@@ -48,7 +48,7 @@ fn a_connection_is_between_ports_that_are_there(rt: HostRuntime) {
     check_begun(&rt, rt.alloc(), PORTS);
 }
 
-const STREAMS: &[Row] = &[
+const STREAMS: &[CallRow] = &[
     (
         Call::Connect((b"S", b"NONE", None), None, (b"T", b"IN", None)),
         "unknown port",
@@ -77,7 +77,7 @@ fn a_connection_is_from_an_output_to_a_stream(rt: HostRuntime) {
 }
 
 // A connection from an element of S to one of T: the elements and the capacity, and what it comes to.
-type Joined = (u32, Option<u32>, u32, &'static str);
+type JoinRow = (u32, Option<u32>, u32, &'static str);
 
 fn join(
     rt: &impl Abort,
@@ -92,24 +92,24 @@ fn join(
     connect(rt, net, alloc, out, capacity, into)
 }
 
-fn check_join(rt: &impl Abort, net: &mut PlanBuilder, alloc: Global, row: &Joined) {
+fn check_join(rt: &impl Abort, net: &mut PlanBuilder, alloc: Global, row: &JoinRow) {
     let (output, capacity, input, wanted) = *row;
     let made = join(rt, net, alloc, output, capacity, input);
     comes_to(rt, made, wanted);
 }
 
-fn check_joins(rt: &impl Abort, net: &mut PlanBuilder, alloc: Global, rows: &[Joined]) {
+fn check_joins(rt: &impl Abort, net: &mut PlanBuilder, alloc: Global, rows: &[JoinRow]) {
     for row in rows {
         check_join(rt, net, alloc, row);
     }
 }
 
-fn check_joined(rt: &impl Abort, alloc: Global, rows: &[Joined]) {
+fn check_joined(rt: &impl Abort, alloc: Global, rows: &[JoinRow]) {
     let mut net = made(rt, alloc, BEGUN);
     check_joins(rt, &mut net, alloc, rows);
 }
 
-const CAPACITIES: &[Joined] = &[
+const CAPACITIES: &[JoinRow] = &[
     (0, Some(0), 0, "capacity"),
     (0, Some(4097), 0, "capacity"),
     (0, Some(4096), 0, "accepted"),
@@ -127,7 +127,7 @@ fn a_capacity_is_from_1_to_4096_and_stays(rt: HostRuntime) {
     check_joined(&rt, rt.alloc(), CAPACITIES);
 }
 
-const OUTPUTS: &[Joined] = &[
+const OUTPUTS: &[JoinRow] = &[
     (0, None, 0, "accepted"),
     (0, None, 1, "port taken"),
     (0, None, 0, "port taken"),
@@ -139,7 +139,7 @@ fn an_output_is_connected_once(rt: HostRuntime) {
     check_joined(&rt, rt.alloc(), OUTPUTS);
 }
 
-const LAST: &[Row] = &[
+const LAST: &[CallRow] = &[
     (
         Call::Connect((b"P", b"OUT", None), None, (b"Q", b"IN", None)),
         "too many connections",

@@ -1,9 +1,9 @@
 // Processes that are refused, and their neighbours.
-use crate::calls::{Call, Row, accepted, check_begun, comes_to, empty};
+use crate::calls::{Call, CallRow, accepted, check_begun, comes_to, empty};
 use flow_net::PlanBuilder;
 use std::process::Abort;
 
-const NAMES: &[Row] = &[
+const NAMES: &[CallRow] = &[
     (Call::Process(b"S", b"Pass"), "same name"),
     (Call::Process(b"U", b"None"), "unknown kind"),
     (Call::Process(b"S", b"None"), "same name"),

@@ -1,7 +1,7 @@
 // Texts that are refused, and their neighbours.
-use crate::calls::{Call, Row, check_begun};
+use crate::calls::{Call, CallRow, check_begun};
 
-const SIZES: &[Row] = &[
+const SIZES: &[CallRow] = &[
     (Call::Give(b"0", (b"S", b"SIZE", None)), "bad option"),
     (Call::Give(b"1048577", (b"S", b"SIZE", None)), "bad option"),
     (Call::Give(b"012", (b"S", b"SIZE", None)), "bad option"),
@@ -16,7 +16,7 @@ fn an_option_takes_a_text_of_its_class_once(rt: HostRuntime) {
     check_begun(&rt, rt.alloc(), SIZES);
 }
 
-const INPUTS: &[Row] = &[
+const INPUTS: &[CallRow] = &[
     (Call::Give(b"", (b"X", b"IN", None)), "unknown process"),
     (Call::Give(b"", (b"S", b"NONE", None)), "unknown port"),
     (Call::Give(b"", (b"S", b"OUT", None)), "unknown port"),
@@ -29,7 +29,7 @@ fn a_text_is_for_an_input_that_is_there(rt: HostRuntime) {
     check_begun(&rt, rt.alloc(), INPUTS);
 }
 
-const TEXT_FIRST: &[Row] = &[
+const TEXT_FIRST: &[CallRow] = &[
     (Call::Give(b"a", (b"T", b"IN", None)), "accepted"),
     (
         Call::Connect((b"S", b"OUT", Some(0)), None, (b"T", b"IN", Some(0))),
@@ -46,7 +46,7 @@ fn an_input_with_a_text_takes_no_connection(rt: HostRuntime) {
     check_begun(&rt, rt.alloc(), TEXT_FIRST);
 }
 
-const CONNECTION_FIRST: &[Row] = &[
+const CONNECTION_FIRST: &[CallRow] = &[
     (
         Call::Connect((b"S", b"OUT", Some(0)), None, (b"T", b"IN", Some(0))),
         "accepted",

@@ -23,12 +23,14 @@ Alike [] (y ∷ ys) = ⊥
 Alike (x ∷ xs) [] = ⊥
 Alike (x ∷ xs) (y ∷ ys) = (with_component x y.component ≡ y) × Alike xs ys
 
+-- The other way round they are alike too.
 pub alike-sym : {K L : Type 0} (xs : List (Process K)) (ys : List (Process L)) → Alike xs ys → Alike ys xs
 alike-sym [] [] alike = tt
 alike-sym [] (y ∷ ys) alike = absurd alike
 alike-sym (x ∷ xs) [] alike = absurd alike
 alike-sym {K} {L} (x ∷ xs) (y ∷ ys) alike = (ap (λ (z : Process L). with_component z x.component) (sym alike.0), alike-sym xs ys alike.1)
 
+-- Processes with other components are alike those that they were.
 pub alike-replaced : {K L : Type 0} (other : ℕ → K → L) (xs : List (Process K)) → Alike xs (all_replaced other xs)
 alike-replaced other [] = tt
 alike-replaced other (x ∷ xs) = (refl, alike-replaced (λ p. other (suc p)) xs)
@@ -42,6 +44,7 @@ alike-there {K} {L} (z ∷ xs) (y ∷ ys) alike zero x is =
     (y.component, ap (λ (w : Process L). Some w) (sym alike.0 ∙ ap (λ (w : Process K). with_component w y.component) same))
 alike-there (z ∷ xs) (y ∷ ys) alike (suc p) x is = alike-there xs ys alike.1 p x is
 
+-- They are as many.
 pub alike-length : {K L : Type 0} (xs : List (Process K)) (ys : List (Process L)) → Alike xs ys → length ys ≡ length xs
 alike-length [] [] alike = refl
 alike-length [] (y ∷ ys) alike = absurd alike
@@ -57,6 +60,7 @@ alike-at f g none some (x ∷ xs) [] alike p = absurd alike
 alike-at {K} {L} f g none some (x ∷ xs) (y ∷ ys) alike zero = ap (λ (z : Process L). g (Some z)) (sym alike.0) ∙ some x y.component
 alike-at f g none some (x ∷ xs) (y ∷ ys) alike (suc p) = alike-at f g none some xs ys alike.1 p
 
+-- A sum that doesn't ask for components is the same over both.
 pub alike-sum : {K L : Type 0} (f : Process K → ℕ) (g : Process L → ℕ) → ((x : Process K) (c : L) → g (with_component x c) ≡ f x) → (xs : List (Process K)) (ys : List (Process L)) → Alike xs ys → sum_by g ys ≡ sum_by f xs
 alike-sum f g each [] [] alike = refl
 alike-sum f g each [] (y ∷ ys) alike = absurd alike
@@ -86,6 +90,7 @@ waits-same x c (stages.Wishing (wishes.Receive port)) = refl
 waits-same x c (stages.Wishing (wishes.Send port id)) = refl
 waits-same x c stage = refl
 
+-- What blocks a process doesn't ask for its component.
 pub block-same : {K L : Type 0} (channels : List Look) (x : Process K) (c : L) → block_of channels (with_component x c) ≡ block_of channels x
 block-same channels x c =
     let level = exact-same channels x c x.stage in

@@ -25,6 +25,7 @@ no-place None own held answer outcome is none next =
     ap (λ (o : Outcome OwnValue). (component_after o).place) next.2 ∙ (ap (λ (v : OwnValue). v.place) (after-by _ (after_entry held entry) entry.end) ∙ is)
 no-place (Some place) own held answer outcome is none next = absurd cc
 
+-- A part that isn't a player stays one, whatever it is told.
 pub parts-stay : {K : Type 0} (rules : Rules K) → Stays (mixed_rules rules) (λ p. IsPart)
 parts-stay rules p (Other component) held answer outcome next part = subst IsPart (sym (ap component_after next.2 ∙ after-as Other next.0)) tt
 parts-stay rules p (Own own) held answer outcome next part = subst IsPart (sym (ap component_after next.2 ∙ after-as Own next.0)) (no-place own.place own held answer next.0 refl part next.1)

@@ -22,6 +22,7 @@ processes-start plan p [] components = refl
 processes-start plan p (x ∷ xs) [] = refl
 processes-start plan p (x ∷ xs) (component ∷ components) = ap (λ ys. process_at_start plan p x (Other component) ∷ ys) (processes-start plan (p + 1) xs components)
 
+-- The start of a plan, with components among which the caller's own may be and aren't, is its start with these components.
 pub start-others : {K : Type 0} (plan : Plan) (components : List K) → as_mixed (start_of plan components) ≡ start_of plan (others components)
 start-others {K} plan components =
     let same = processes-start plan 0 plan.processes components in
@@ -32,6 +33,7 @@ more-others : {K : Type 0} (component : Mixed K) (components : List (Mixed K)) �
 more-others (Other component) components other rest = (component ∷ rest.0, ap (λ cs. Other component ∷ cs) rest.1)
 more-others (Own own) components other rest = absurd other
 
+-- Components none of which is the caller's own are the others alone.
 pub are-others : {K : Type 0} (components : List (Mixed K)) → ((p : ℕ) (component : Mixed K) → slice_get components p ≡ Some component → IsOther component) → (found : List K) × (components ≡ others found)
 are-others [] each = ([], refl)
 are-others (component ∷ components) each = more-others component components (each 0 component refl) (are-others components (λ p c there. each (suc p) c there))
@@ -50,6 +52,7 @@ processes-other : {K : Type 0} (ys : List (Process (Mixed K))) → ((p : ℕ) (y
 processes-other [] each = ([], refl)
 processes-other (y ∷ ys) each = more-other y ys y.component refl (each 0 y refl) (processes-other ys (λ p z there. each (suc p) z there))
 
+-- A state in which no component is the caller's own is one of the other components.
 pub only-other : {K : Type 0} (t : State (Mixed K)) → OfEach (λ p (component : Mixed K). IsOther component) t → (s : State K) × (t ≡ as_mixed s)
 only-other {K} t each =
     let from = processes-other t.kept.processes each in
@@ -64,6 +67,7 @@ processes-back : {K : Type 0} (some : K) (xs : List (Process K)) → all_replace
 processes-back some [] = refl
 processes-back some (x ∷ xs) = ap (λ ys. x ∷ ys) (processes-back some xs)
 
+-- With the components that they are, it is the state that it was.
 pub state-back : {K : Type 0} (some : K) (s : State K) → replaced (back some) (as_mixed s) ≡ s
 state-back some s = let same = processes-back some s.kept.processes in λ i. record { kept = record { processes = same i; channels = s.kept.channels }; past = s.past }
 

@@ -12,6 +12,7 @@ replaced-at other [] p = refl
 replaced-at other (x ∷ xs) zero = refl
 replaced-at other (x ∷ xs) (suc p) = replaced-at (λ q. other (suc q)) xs p
 
+-- There are as many processes as before.
 pub replaced-length : {K L : Type 0} (other : ℕ → K → L) (xs : List (Process K)) → length (all_replaced other xs) ≡ length xs
 replaced-length other [] = refl
 replaced-length other (x ∷ xs) = ap suc (replaced-length (λ q. other (suc q)) xs)

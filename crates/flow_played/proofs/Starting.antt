@@ -38,6 +38,7 @@ each-at other [] p = refl
 each-at other (component ∷ components) zero = refl
 each-at other (component ∷ components) (suc p) = each-at (λ q. other (suc q)) components p
 
+-- At each place is the player of the component there.
 pub players-in-order : {K : Type 0} → PlayersInOrder K
 players-in-order tapes components p = each-at (player_for tapes) components p
 
@@ -55,6 +56,7 @@ first-place : {K : Type 0} (tapes : ℕ → List Entry) (p : ℕ) (component : M
 first-place tapes p (Other component) fresh = refl
 first-place {K} tapes p (Own own) fresh = ap {B = Mixed K} (λ (tape : List Entry). played_by tapes p (Own (record own { tape = tape }))) fresh.1
 
+-- At the start of a network each player stands before the first entry of its tape.
 pub players-stand : {K : Type 0} → PlayersStandAtStart K
 players-stand {K} tapes plan components fresh =
     start-with (played_by tapes) plan components ∙ ap (start_of plan) (agree IsFresh (played_by tapes) (player_for tapes) (first-place tapes) components fresh)

@@ -7,10 +7,10 @@ mod stretches;
 
 use crate::stretches::{ProgressStop, to_the_end};
 use flow_catalogue::Std;
-use flow_machine::Closed;
+use flow_machine::{Closed, Net};
 use flow_plan::Plan;
 use flow_report::Report;
-use flow_rig::{plan_of_text, started};
+use flow_rig::{plan_of_text, standard_components};
 use std::alloc::{AllocError, Global};
 use std::io::Write;
 use std::process::ExitCode;
@@ -53,7 +53,8 @@ fn report_of_run<R: Threads + Wait + Sync + Eprint>(
 ) -> Result<Vec<u8>, ProgressStop> {
     let plan = plan_of_text(alloc, NET)?;
     let lines = input(alloc)?;
-    let net = started(alloc, NET, &lines)?;
+    let components = standard_components(alloc, &plan, &lines)?;
+    let net = Net::start(alloc, &plan, components)?;
     let closed = to_the_end(rt, alloc, net)?;
     let report = told(alloc, &plan, &closed);
     closed.discard();

@@ -2,8 +2,8 @@
 ghost use Rattle.std.specs.Prelude.{◌≡◌, ◌<◌, ◌++◌, ◌==◌, ◌||◌, length, OnOk, IfOk, IfSome, [], slice_get, unwrap_or};
 ghost use Rattle.std.specs.List.{list_all, list_any};
 ghost use Rattle.std.specs.Option.{is_none};
-ghost use Rattle.flow_machine.specs.Nets.{block_at, looks_of};
-ghost use Rattle.flow_model.specs.Stages.{has_ended, owes_work, has_failed};
+ghost use Rattle.flow_machine.specs.Nets.{looks_of};
+ghost use Rattle.flow_model.specs.Stages.{has_ended, has_failed};
 ghost use Rattle.flow_cycle.specs.Nets.{cycle_in};
 ghost use Rattle.flow_machine.specs.Joins.{processes_of};
 ghost use Rattle.flow_report.specs.Of.{totals_in, with_process, verdict_by, goes_on, cause_at, failed_at, named_block, block_told, failure_told, told_from};
@@ -11,7 +11,7 @@ ghost use Rattle.flow_report.specs.Of.{totals_in, with_process, verdict_by, goes
 use crate::names::{input_text, name_text, output_text};
 use crate::report::{Blocked, Cause, Failure, LeftPacket, Verdict, Wait};
 use flow_component::{Component, Fail};
-use flow_cycle::{Waits, cycle};
+use flow_cycle::{Waits, block_of, cycle, has_ended};
 use flow_items::{Items, Text};
 use flow_machine::{Block, Body, Net, Stage};
 use flow_plan::Plan;
@@ -25,30 +25,11 @@ pub struct Totals {
     pub dropped: u64,
 }
 
-fn has_ended(stage: Stage) -> bool
-    ensures { result ≡ has_ended stage }
-{
-    match stage {
-        Stage::Ended => true,
-        _ => false,
-    }
-}
-
 fn has_failed(stage: Stage) -> bool
     ensures { result ≡ has_failed stage }
 {
     match stage {
         Stage::Failed(_) => true,
-        _ => false,
-    }
-}
-
-// Its work after an answer is still to come.
-fn owes_work(stage: Stage) -> bool
-    ensures { result ≡ owes_work stage }
-{
-    match stage {
-        Stage::Told(_) => true,
         _ => false,
     }
 }
@@ -79,18 +60,6 @@ fn with_body<K: Component>(totals: &Totals, body: &Body<K>) -> Totals
         turns: totals.turns.saturating_add(turns),
         made: totals.made.saturating_add(made),
         dropped: totals.dropped.saturating_add(dropped),
-    }
-}
-
-// What blocks a process. One whose work is still to come isn't blocked.
-fn block_of<K: Component>(net: &Net<K>, process: u32) -> Option<Block>
-    requires { process < length net.now.bodies }
-    ensures { result ≡ block_at net.now process }
-{
-    if owes_work(net.body(process).stage()) {
-        None
-    } else {
-        net.block(process)
     }
 }
 

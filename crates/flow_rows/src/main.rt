@@ -8,14 +8,14 @@ mod around;
 mod bytes;
 mod calls;
 mod came;
+mod course;
 mod page;
 mod said;
 mod shown;
-mod stage;
 mod wants;
 
-use crate::page::{Page, Step};
-use crate::stage::Stage;
+use crate::course::Course;
+use crate::page::{RowFile, Step};
 use std::alloc::{AllocError, Global};
 use std::process::ExitCode;
 use std::rt::{Env, Files};
@@ -31,15 +31,15 @@ const STOPPED: u8 = 2;
 
 /// How many rows there are, and how many of them passed.
 #[derive(Clone, Copy)]
-struct Count {
+struct RowCount {
     rows: u64,
     passed: u64,
 }
 
-impl Count {
-    const NONE: Count = Count { rows: 0, passed: 0 };
+impl RowCount {
+    const NONE: RowCount = RowCount { rows: 0, passed: 0 };
 
-    fn add(&mut self, more: Count) {
+    fn add(&mut self, more: RowCount) {
         self.rows = self.rows.saturating_add(more.rows);
         self.passed = self.passed.saturating_add(more.passed);
     }
@@ -47,11 +47,11 @@ impl Count {
 
 fn follow_all<R: Threads + Wait + Sync>(
     rt: &R,
-    stage: &mut Stage,
+    course: &mut Course,
     steps: &[Step],
 ) -> Result<(), AllocError> {
     for step in steps {
-        stage.follow(rt, step)?;
+        course.follow(rt, step)?;
     }
     Ok(())
 }
@@ -63,10 +63,10 @@ fn differences<R: Threads + Wait + Sync>(
     common: &[Step],
     steps: &[Step],
 ) -> Result<String, AllocError> {
-    let mut stage = Stage::new(alloc);
-    follow_all(rt, &mut stage, common)?;
-    follow_all(rt, &mut stage, steps)?;
-    stage.told()
+    let mut course = Course::new(alloc);
+    follow_all(rt, &mut course, common)?;
+    follow_all(rt, &mut course, steps)?;
+    course.told()
 }
 
 /// Goes through the rows of a file, and tells of each that differs.
@@ -74,13 +74,13 @@ fn run_page<R: Print + Threads + Wait + Sync>(
     rt: &R,
     alloc: Global,
     name: &str,
-    page: &Page,
-) -> io::Result<Count> {
-    let mut count = Count::NONE;
+    page: &RowFile,
+) -> io::Result<RowCount> {
+    let mut count = RowCount::NONE;
     for row in &page.rows {
         let told = differences(rt, alloc, &page.common, &row.steps)?;
         let passed = if told.is_empty() { 1 } else { 0 };
-        count.add(Count { rows: 1, passed });
+        count.add(RowCount { rows: 1, passed });
         if !told.is_empty() {
             print!(rt; "{name}: {}\n{told}", row.name)?;
         }
@@ -92,11 +92,11 @@ fn run_page<R: Print + Threads + Wait + Sync>(
 fn run_file<R: Print + Files + AllocGlobal + Threads + Wait + Sync>(
     rt: &R,
     name: &str,
-) -> io::Result<Count> {
+) -> io::Result<RowCount> {
     let text = fs::read_to_string(rt, name)?;
-    let page = Page::of(rt.alloc(), &text)?;
+    let page = RowFile::of(rt.alloc(), &text)?;
     let count = run_page(rt, rt.alloc(), name, &page)?;
-    let Count { rows, passed } = count;
+    let RowCount { rows, passed } = count;
     println!(rt; "{name}: {passed} of {rows} rows")?;
     Ok(count)
 }
@@ -105,12 +105,12 @@ fn run_file<R: Print + Files + AllocGlobal + Threads + Wait + Sync>(
 fn run_pages<R: Print + Files + AllocGlobal + Threads + Wait + Sync>(
     rt: &R,
     names: &[String],
-) -> io::Result<Count> {
-    let mut count = Count::NONE;
+) -> io::Result<RowCount> {
+    let mut count = RowCount::NONE;
     for name in names {
         count.add(run_file(rt, name.as_str())?);
     }
-    let Count { rows, passed } = count;
+    let RowCount { rows, passed } = count;
     println!(rt; "{passed} of {rows} rows passed")?;
     Ok(count)
 }
@@ -124,7 +124,9 @@ fn words_of(alloc: Global, args: env::Args) -> Result<Vec<String>, AllocError> {
     Ok(words)
 }
 
-fn run<R: Env + Print + Files + AllocGlobal + Threads + Wait + Sync>(rt: &R) -> io::Result<Count> {
+fn run<R: Env + Print + Files + AllocGlobal + Threads + Wait + Sync>(
+    rt: &R,
+) -> io::Result<RowCount> {
     let names = words_of(rt.alloc(), env::args(rt)?)?;
     run_pages(rt, &names)
 }

@@ -12,17 +12,17 @@ pub struct Step<'a> {
 
 /// What stands behind a line `row NAME`, up to the next one.
 #[derive(Drop)]
-pub struct Row<'a> {
+pub struct NamedRow<'a> {
     pub name: &'a str,
     pub steps: Vec<Step<'a>>,
 }
 
 /// A file of rows.
 #[derive(Drop)]
-pub struct Page<'a> {
+pub struct RowFile<'a> {
     /// What stands before the first row: each row begins with it.
     pub common: Vec<Step<'a>>,
-    pub rows: Vec<Row<'a>>,
+    pub rows: Vec<NamedRow<'a>>,
 }
 
 /// A line's first word and what stands behind the blank after it.
@@ -38,10 +38,10 @@ fn is_text(line: &str) -> bool {
         || line.starts_with("x ")
 }
 
-impl<'a> Page<'a> {
+impl<'a> RowFile<'a> {
     /// The rows of a text. Empty lines, and those that begin with `#`, are remarks.
-    pub fn of(alloc: Global, text: &'a str) -> Result<Page<'a>, AllocError> {
-        let mut page = Page {
+    pub fn of(alloc: Global, text: &'a str) -> Result<RowFile<'a>, AllocError> {
+        let mut page = RowFile {
             common: Vec::new(alloc),
             rows: Vec::new(alloc),
         };
@@ -57,7 +57,7 @@ impl<'a> Page<'a> {
         let (word, rest) = first_word(line);
         if word == "row" {
             let steps = Vec::new(alloc);
-            self.rows.push(Row { name: rest, steps })?;
+            self.rows.push(NamedRow { name: rest, steps })?;
             return Ok(());
         }
         match self.rows.last_mut() {

@@ -13,10 +13,15 @@ use flow_parse::{NetText, ParseStop, parse, print};
 use std::alloc::Global;
 
 /// A status and a text.
-type Said = (Status, Vec<u8>);
+type StatusAndText = (Status, Vec<u8>);
 
 /// What the call of this kind says.
-pub fn said(alloc: Global, around: &Around, kind: &str, rest: &str) -> Result<Said, RowStop> {
+pub fn said(
+    alloc: Global,
+    around: &Around,
+    kind: &str,
+    rest: &str,
+) -> Result<StatusAndText, RowStop> {
     match kind {
         "flow-words" => flow_words(alloc, rest),
         "draw-words" => draw_words(alloc, rest),
@@ -28,7 +33,7 @@ pub fn said(alloc: Global, around: &Around, kind: &str, rest: &str) -> Result<Sa
 }
 
 // What `flow` is asked for by these words.
-fn flow_words(alloc: Global, line: &str) -> Result<Said, RowStop> {
+fn flow_words(alloc: Global, line: &str) -> Result<StatusAndText, RowStop> {
     let words = words_of(alloc, line)?;
     match flow_words::command(alloc, &words)? {
         Some(command) => {
@@ -40,7 +45,7 @@ fn flow_words(alloc: Global, line: &str) -> Result<Said, RowStop> {
 }
 
 // What `draw` is asked for by these words.
-fn draw_words(alloc: Global, line: &str) -> Result<Said, RowStop> {
+fn draw_words(alloc: Global, line: &str) -> Result<StatusAndText, RowStop> {
     let words = words_of(alloc, line)?;
     match flow_draw::command(alloc, &words)? {
         Some(command) => {
@@ -68,7 +73,7 @@ fn value_of(alloc: Global, around: &Around, name: &str) -> Result<Result<NetText
 }
 
 // The spelling of a network file, whatever kinds it names, or its fault.
-fn spell(alloc: Global, around: &Around, name: &str) -> Result<Said, RowStop> {
+fn spell(alloc: Global, around: &Around, name: &str) -> Result<StatusAndText, RowStop> {
     match value_of(alloc, around, name)? {
         Ok(value) => Ok((Status::Finished, print(alloc, &value)?)),
         Err(told) => Ok((Status::Refused, told)),
@@ -76,7 +81,7 @@ fn spell(alloc: Global, around: &Around, name: &str) -> Result<Said, RowStop> {
 }
 
 // The fault of a network file where there are no kinds, and nothing where it has none.
-fn expand_alone(alloc: Global, around: &Around, name: &str) -> Result<Said, RowStop> {
+fn expand_alone(alloc: Global, around: &Around, name: &str) -> Result<StatusAndText, RowStop> {
     let value = match value_of(alloc, around, name)? {
         Ok(value) => value,
         Err(told) => return Ok((Status::Refused, told)),
@@ -93,7 +98,7 @@ fn expand_alone(alloc: Global, around: &Around, name: &str) -> Result<Said, RowS
 }
 
 // A file's bytes in the quotes of a language of drawings.
-fn quote(alloc: Global, around: &Around, rest: &str) -> Result<Said, RowStop> {
+fn quote(alloc: Global, around: &Around, rest: &str) -> Result<StatusAndText, RowStop> {
     let (form, name) = first_word(rest);
     let form = match form {
         "mermaid" => Form::Mermaid,

@@ -102,6 +102,7 @@ apart f ps qs all i j d e lt lt' other m s m-lt n t n-lt same =
     let two : at k (get_or theirs n t) ≡ 1 = ap (λ b. cond b 1 0) (eq-eqb (get_or theirs n t).0 k (sym same)) in
     omega (arith, one, two, get_or-le-sum_by (at k) mine m s m-lt, get_or-le-sum_by (at k) theirs n t n-lt, of-two f k ps i j d e lt lt' other, ap (sum_by (at k)) all, at-once k 0 qs)
 
+-- Of a line that was closed: what was popped as the k-th was pushed as the k-th, and no push or pop is that of two passes.
 pub closes-in-order : ClosesInOrder
 closes-in-order ps items (gone, takes, puts) i j d e lt lt' = (
   pops-of gone items (takes_of (get_or ps i d)) (puts_of (get_or ps j e)) (all-merged (λ (s : ℕ × ℕ). get_elem? gone s.0 ≡ some s.1) takes_of ps (subst (StandIn gone) (sym takes) (stand gone)) i d lt)

@@ -105,6 +105,7 @@ passes-send = search (sendable, crosses, pass-send) depth 20
 watch-send : IsSend Watch.the_row
 watch-send = search (sendable, crosses) depth 20
 
+-- A worker with its passes may go to another thread where its components may.
 pub server-send : (K : RattleType) (g : Component.Ghosts K.Denot) → IsSend K → IsSend (Server.the_row K g)
 server-send K g s = let worker = worker-send K g s in search (sendable, crosses, Seat.the_send, slot-send, passes-send, watch-send) depth 40 fits 10000
 

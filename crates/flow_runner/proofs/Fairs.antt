@@ -291,5 +291,6 @@ room-of v gone items (views, j, f, at) part = let most = (f.each j v at).0 part 
 pub puts-below : (v : Hand) (gone items : List ℕ) → Was v gone items → Below (length (gone ++ items)) v.put
 puts-below v gone items (views, j, f, at) = subst (Below (length (gone ++ items))) (sym (f.put j v at)) (placed_by-below j 0 (length (gone ++ items)) f.pushers (gone ++ items) (omega arith))
 
+-- What it popped stands before any place behind all that was popped.
 pub takes-below : (v : Hand) (gone items : List ℕ) (m : ℕ) → length gone ≤ m → Was v gone items → Below m v.taken
 takes-below v gone items m le (views, j, f, at) = subst (Below m) (sym (f.taken j v at)) (placed_by-below j 0 m f.poppers gone (omega (arith, le)))

@@ -28,6 +28,7 @@ once-more n q = by (nat_lt q n) (nat_lt q (n + 1)) (nat_eq n q) refl refl refl
     by false false true e f h = absurd (grind (arith, nat_tests))
     by false false false e f h = refl
 
+-- Of no processes none was pushed.
 pub each-none : (ps : List LinePass) → PushesEach 0 ps ps
 each-none ps q = by (nat_lt q 0) refl
   where

@@ -47,12 +47,14 @@ apart-by i j n (h ∷ by) (q ∷ qs) other = go (i == h) (j == h) refl refl (apa
         (All-weaker (λ (s : ℕ × ℕ). n + 1 ≤ s.0) (λ (t : ℕ × ℕ). t.0 ≢ n) (λ s le same. omega (arith, le, same)) (placed_by i (n + 1) by qs) (placed_by-from i (n + 1) by qs)) rest
     go false false e f rest = rest
 
+-- A place at which one pass pushed or popped is no other pass's.
 pub places-are-ones : PlacesAreOnes
 places-are-ones gone items views i j u v f at at' other = (
   subst (λ (l : List (ℕ × ℕ) × List (ℕ × ℕ)). AreApart l.0 l.1) (λ x. (sym (f.put i u at) x, sym (f.put j v at') x)) (apart-by i j 0 f.pushers (gone ++ items) other),
   subst (λ (l : List (ℕ × ℕ) × List (ℕ × ℕ)). AreApart l.0 l.1) (λ x. (sym (f.taken i u at) x, sym (f.taken j v at') x)) (apart-by i j 0 f.poppers gone other),
 )
 
+-- What a pass pushed stands at ascending places of all that was pushed, and what it popped at such places of all that was popped.
 pub each-is-in-order : EachIsInOrder
 each-is-in-order v gone items (views, j, f, at) = (
   subst (StandIn (gone ++ items)) (sym (f.put j v at)) (stand-by j f.pushers (gone ++ items)),
@@ -73,11 +75,13 @@ pops-of gone items takes puts popped pushed =
     (λ s here. All-weaker (λ (t : ℕ × ℕ). get_elem? (gone ++ items) t.0 ≡ some t.1) (λ (t : ℕ × ℕ). s.0 ≡ t.0 → s.1 ≡ t.1)
     (λ t there same. some-injective s.1 t.1 (sym (at-front gone items s.0 s.1 here) ∙ ap (get_elem? (gone ++ items)) same ∙ there)) puts pushed) takes popped
 
+-- What was popped as the k-th was pushed as the k-th, by whichever passes.
 pub pops-are-pushes : PopsArePushes
 pops-are-pushes gone items views i j u v f at at' =
     let mine = each-is-in-order u gone items (views, i, f, at) in
     let theirs = each-is-in-order v gone items (views, j, f, at') in
     pops-of gone items u.taken v.put mine.2 theirs.0
 
+-- The only pass knows all, in order.
 pub one-knows-all : OneKnowsAll
 one-knows-all v gone items was all = alone v gone items was all

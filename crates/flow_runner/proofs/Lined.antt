@@ -57,9 +57,11 @@ each-leaves ps items (gone, takes, puts) q =
     let pushed = sym (times-merged q puts_of ps) ∙ ap (λ l. times q (processes_at l)) puts ∙ ap (times q) (placed-processes 0 (gone ++ items)) in
     let popped = sym (times-merged q takes_of ps) ∙ ap (λ l. times q (processes_at l)) takes ∙ ap (times q) (placed-processes 0 gone) in omega (arith, pushed, popped, times-append q gone items)
 
+-- The last two of all passes are passes of the line.
 pub both-passes : (line : Line) (xs : List LinePass) (a b : LinePass) → AreAllPasses line ((xs ++ a ∷ []) ++ b ∷ []) → IsPassAt line a × IsPassAt line b
 both-passes line xs a b h = (All-last (IsPassAt line) xs a (All-front (IsPassAt line) (xs ++ a ∷ []) b h.0), All-last (IsPassAt line) (xs ++ a ∷ []) b h.0)
 
+-- Where two passes are joined to one, those are all passes still.
 pub all-pair : (line : Line) (xs : List LinePass) (a b c : LinePass) → IsPassAt line c → parts_of c ≡ parts_of b + parts_of a → AreAllPasses line ((xs ++ a ∷ []) ++ b ∷ []) → AreAllPasses line (xs ++ c ∷ [])
 all-pair line xs a b c is both h = (all-push (IsPassAt line) xs c (All-front (IsPassAt line) xs a (All-front (IsPassAt line) (xs ++ a ∷ []) b h.0)) is, sum-pair parts_of xs a b c both ∙ h.1)
 

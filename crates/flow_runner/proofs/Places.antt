@@ -28,6 +28,7 @@ placed_by-push j n i (h ∷ by) (u ∷ qs) q len =
 placed_by-mine : (j n : ℕ) (by : List ℕ) (qs : List ℕ) (q : ℕ) → length by ≡ length qs → placed_by j n (by ++ j ∷ []) (qs ++ q ∷ []) ≡ placed_by j n by qs ++ (n + length qs, q) ∷ []
 placed_by-mine j n by qs q len = placed_by-push j n j by qs q len ∙ ap (λ b. placed_by j n by qs ++ (if b then (n + length qs, q) ∷ [] else [])) (eq-eqb j j refl)
 
+-- What a pass pushes next is its own at the place behind all.
 pub placed_by-next : (j : ℕ) (by : List ℕ) (qs : List ℕ) (q : ℕ) → length by ≡ length qs → placed_by j 0 by qs ++ (length qs, q) ∷ [] ≡ placed_by j 0 (by ++ j ∷ []) (qs ++ q ∷ [])
 placed_by-next j by qs q len = let same : length qs ≡ 0 + length qs = omega arith in ap (λ k. placed_by j 0 by qs ++ (k, q) ∷ []) same ∙ sym (placed_by-mine j 0 by qs q len)
 
@@ -151,5 +152,6 @@ pub placed-processes : (n : ℕ) (xs : List ℕ) → map (λ (s : ℕ × ℕ). s
 placed-processes n [] = refl
 placed-processes n (x ∷ xs) = ap (λ l. x ∷ l) (placed-processes (n + 1) xs)
 
+-- Lists that stand alike at their places are the same.
 pub placed-same : (xs ys : List ℕ) → placed 0 xs ≡ placed 0 ys → xs ≡ ys
 placed-same xs ys same = sym (placed-processes 0 xs) ∙ ap (map (λ (s : ℕ × ℕ). s.1)) same ∙ placed-processes 0 ys

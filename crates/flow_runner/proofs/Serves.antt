@@ -8,9 +8,11 @@ use Rattle.flow_runner.specs.declared.line.LinePass.{LinePass}
 use Rattle.flow_runner.specs.Lines.{line_room, pops_of, pushes_of}
 use Rattle.flow_runner.specs.Serving.{Follows, GrowAlike, IsLineFor, KeepsPass, Pushes, PushesBut}
 
+-- Two lists that stay as they were grew alike, by nothing.
 pub grow-none : (xs xs' ys ys' : List ℕ) → xs' ≡ xs → ys' ≡ ys → GrowAlike xs xs' ys ys'
 grow-none xs xs' ys ys' a b = record { more = []; first = a ∙ sym (append-nil xs); second = b ∙ sym (append-nil ys) }
 
+-- Two that grew alike, and then grew alike again, did so all in all.
 pub grow-then : (xs xs' xs'' ys ys' ys'' : List ℕ) → GrowAlike xs xs' ys ys' → GrowAlike xs' xs'' ys' ys'' → GrowAlike xs xs'' ys ys''
 grow-then xs xs' xs'' ys ys' ys'' a b = record {
   more = a.more ++ b.more;
@@ -18,6 +20,7 @@ grow-then xs xs' xs'' ys ys' ys'' a b = record {
   second = b.second ∙ ap (λ (zs : List ℕ). zs ++ b.more) a.second ∙ append_assoc ys a.more b.more;
 }
 
+-- A pass that was kept, and then kept again, was kept all in all.
 pub keeps-then : (line : Line) (p q r : LinePass) → KeepsPass line p q → KeepsPass line q r → KeepsPass line p r
 keeps-then line p q r a b = (b.0, b.1 ∙ a.1)
 

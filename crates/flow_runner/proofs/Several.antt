@@ -51,6 +51,7 @@ module _ (v : Hand) (j k : ℕ) (other : k ≢ j) where
       filled room (items ++ 0 ∷ []) next.1.0 (set views k next.0) next.0 next.1.1 (set_else views k j next.0 (λ e. other (sym e)) ∙ at) (set_here views k next.0 (at_inside views k u at')) mine (omega (arith, part, ap (λ (w : Hand). w.parts) next.2.3))
       (omega (arith, long, length-append items (0 ∷ [])))
 
+-- Whatever one of several passes did, the others may have emptied the line, or filled it.
 pub several-are-not-told : SeveralAreNotTold
 several-are-not-told v gone items (views, j, f, at) mine few =
     let o = another_part views j v at (omega (arith, few, f.parts)) in

@@ -4,7 +4,7 @@ ghost use Rattle.flow_runner.specs.Fair.{times};
 ghost use Rattle.flow_runner.specs.Lines.{IsPassAt, IsAlone, IsNewPass, AreAllPasses, pushes_of, pops_of, puts_of, takes_of, all_puts, all_takes, line_room, parts_of, KnowsTheSame, Leaves, LeaveInOrder, WasLast, WasFirst, WasFull, WasEmpty};
 ghost use Rattle.std.specs.Prelude.{◌≡◌, ℕ, List, ◌+◌, ◌<◌, ◌≤◌, ◌++◌, ◌∷◌, [], All, IfOk, IsFalse, IsNone, IsTrue, MatchOption, length, sum_by, vec_capacity};
 
-use crate::line::{Begin, Cut, Line, LinePass, Puts, Size, Takes};
+use crate::line::{Begin, CutPass, Line, LinePass, Puts, Size, Takes};
 use crate::rest::Bell;
 use crossbeam_queue::RuledArrayQueue;
 use std::alloc::{AllocError, Global};
@@ -22,7 +22,7 @@ impl Line {
         ensures count { length result.items ≡ workers }
     {
         for _i in 1..workers {
-            let pass = self.queue.another::<Cut>(&mut first.pass);
+            let pass = self.queue.another::<CutPass>(&mut first.pass);
             passes.push_reserved(LinePass { pass });
         }
         passes.push_reserved(first);
@@ -36,7 +36,7 @@ impl Line {
         ensures first { IsPassAt self.now first.new × (parts_of first.new + 1 ≡ parts_of first.old) }
         ensures pass { IsPassAt self.now result }
     {
-        let pass = self.queue.another::<Cut>(&mut first.pass);
+        let pass = self.queue.another::<CutPass>(&mut first.pass);
         LinePass { pass }
     }
 
@@ -120,7 +120,7 @@ impl Line {
         ensures taken { takes_of result ≡ all_takes (passes.items ++ first ∷ []) }
     {
         while let Some(LinePass { pass }) = passes.pop() {
-            self.queue.absorb::<Cut>(&mut first.pass, pass);
+            self.queue.absorb::<CutPass>(&mut first.pass, pass);
         }
         first
     }

@@ -56,9 +56,9 @@ impl<S: Size> Split<Hand> for Begin<S> {
 }
 
 /// How a pass is cut in two, and how two are made one.
-pub(crate) struct Cut;
+pub(crate) struct CutPass;
 
-impl Split<Hand> for Cut {
+impl Split<Hand> for CutPass {
     ghost use Rattle.std.specs.Prelude.{◌-◌, []};
     ghost use Rattle.flow_runner.specs.Fair.{hand};
 
@@ -67,7 +67,7 @@ impl Split<Hand> for Cut {
     ghost right = { λ v. hand v.most 1 [] [] };
 }
 
-impl Join<Hand> for Cut {
+impl Join<Hand> for CutPass {
     ghost use Rattle.std.specs.Prelude.{◌+◌, []};
     ghost use Rattle.flow_floor.specs.Made.{merge};
     ghost use Rattle.flow_runner.specs.Fair.{hand};

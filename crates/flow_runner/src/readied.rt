@@ -2,24 +2,21 @@
 ghost use Rattle.flow_floor.specs.Floors.{woken_of};
 ghost use Rattle.flow_runner.specs.Lines.{IsPassAt, line_room, pops_of, pushes_of};
 ghost use Rattle.flow_runner.specs.Serving.{names_of, KeepsPass, MayStandIn};
-ghost use Rattle.flow_runner.specs.declared.readied.TheConstants.{PUSHED_AFTER};
+ghost use Rattle.flow_runner.specs.declared.tuned.TheConstants.{PUSHED_AFTER};
 ghost use Rattle.std.specs.Prelude.{◌≡◌, ◌+◌, ◌<◌, ◌≤◌, ◌++◌, [], ◌∷◌, All, ◌⊎◌};
 
 use crate::line::{Line, LinePass};
+use crate::tuned::{PUSHED_AFTER, UNPUSHED_PLACES};
 use arrayvec::ArrayVec;
 use flow_component::Component;
 use flow_floor::Worker;
 use std::sync::Wait;
 
-/// After so many turns of one process those are pushed whom they made ready. Were each pushed at once, another worker would claim it for a packet or two,
-/// where the process that is held sends to several by turns.
-const PUSHED_AFTER: u32 = 20;
-
 /// The processes that a worker made ready and hasn't pushed yet, in order, and how many turns of the process that it holds it made since it pushed any.
 #[derive(Drop)]
 pub(crate) struct Unpushed {
     /// Where there is no room for more, all are pushed.
-    names: ArrayVec<u32, 32>,
+    names: ArrayVec<u32, UNPUSHED_PLACES>,
     turns: u32,
     /// After how many turns they are pushed.
     after: u32,

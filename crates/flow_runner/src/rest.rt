@@ -1,17 +1,12 @@
 //! How a worker rests that finds nothing to do.
-ghost use Rattle.flow_runner.specs.declared.rest.TheConstants.{SHORTEST, LONGEST};
+ghost use Rattle.flow_runner.specs.declared.tuned.TheConstants.{SHORTEST_SLEEP, LONGEST_SLEEP};
 ghost use Rattle.std.specs.Prelude.{◌≡◌, ◌*◌, ◌≤◌, ◌⊎◌, min};
 
+use crate::tuned::{LONGEST_SLEEP, SHORTEST_SLEEP};
 use crossbeam_utils::Backoff;
 use std::sync::Wait;
 use std::sync::atomic::{AtomicU64, Ordering};
 use std::time::Duration;
-
-/// The first sleep, in microseconds: about what the system takes to begin a sleep and to end it.
-const SHORTEST: u64 = 50;
-
-/// The longest sleep, in microseconds. No process that becomes ready is left lying for longer because all others sleep.
-const LONGEST: u64 = 3_200;
 
 /// Tells the workers of a run who sleep that it is over, or that there is something to do.
 #[derive(Drop)]
@@ -83,35 +78,35 @@ impl Bell {
 pub(crate) struct Rest {
     backoff: Backoff,
     next_sleep: u64,
-    pub ghost shortest: { SHORTEST ≤ next_sleep },
-    pub ghost longest: { next_sleep ≤ LONGEST },
+    pub ghost shortest: { SHORTEST_SLEEP ≤ next_sleep },
+    pub ghost longest: { next_sleep ≤ LONGEST_SLEEP },
 }
 
 impl Rest {
     pub(crate) fn new() -> Rest
-        ensures { result.next_sleep ≡ SHORTEST }
+        ensures { result.next_sleep ≡ SHORTEST_SLEEP }
     {
         Rest {
             backoff: Backoff::new(),
-            next_sleep: SHORTEST,
+            next_sleep: SHORTEST_SLEEP,
         }
     }
 
     /// Something was found: whatever rest comes next begins from nothing.
     pub(crate) fn end(&mut self)
-        ensures { self.new.next_sleep ≡ SHORTEST }
+        ensures { self.new.next_sleep ≡ SHORTEST_SLEEP }
     {
         self.backoff.reset();
-        self.next_sleep = SHORTEST;
+        self.next_sleep = SHORTEST_SLEEP;
     }
 
     /// Gives way once more, for longer than before. How many microseconds it slept at least; 0 where that isn't known, since somebody was called.
     pub(crate) fn go_on<R: Wait>(&mut self, rt: &R, bell: &Bell) -> u64
-        ensures { (self.new.next_sleep ≡ self.old.next_sleep) ⊎ (self.new.next_sleep ≡ min (2 * self.old.next_sleep) LONGEST) }
+        ensures { (self.new.next_sleep ≡ self.old.next_sleep) ⊎ (self.new.next_sleep ≡ min (2 * self.old.next_sleep) LONGEST_SLEEP) }
     {
         if self.backoff.is_completed() {
             let micros = self.next_sleep;
-            self.next_sleep = (2 * micros).min(LONGEST);
+            self.next_sleep = (2 * micros).min(LONGEST_SLEEP);
             bell.nap(rt, micros)
         } else {
             self.backoff.snooze();

@@ -21,7 +21,7 @@ use std::thread;
 use std::thread::Threads;
 
 /// The lines, and the room for the workers at them and for them when they have served.
-struct Laid<K: Component> {
+struct LaidLines<K: Component> {
     lines: Lines,
     rows: Vec<Vec<LinePass>>,
     watches: Vec<Watch>,
@@ -113,7 +113,11 @@ fn paces_for(alloc: Global, processes: u32) -> Result<Vec<Pace>, AllocError> {
 }
 
 /// Takes all that the workers need.
-fn lay<K: Component>(alloc: Global, processes: u32, workers: u32) -> Result<Laid<K>, AllocError>
+fn lay<K: Component>(
+    alloc: Global,
+    processes: u32,
+    workers: u32,
+) -> Result<LaidLines<K>, AllocError>
     requires processes { (1 ≤ processes) × (processes ≤ PROCESS_LIMIT) }
     requires workers { (1 ≤ workers) × (workers ≤ WORKER_LIMIT) }
     ensures room { IfOk result (λ l. AreRoomFor processes (posts_of l.lines)) }
@@ -129,7 +133,7 @@ fn lay<K: Component>(alloc: Global, processes: u32, workers: u32) -> Result<Laid
     let paces = paces_for(alloc, processes)?;
     let (posts, firsts) = open_lines(alloc, processes, workers)?;
     let rows = rows_of(alloc, &posts, firsts, workers)?;
-    Ok(Laid {
+    Ok(LaidLines {
         lines: Lines::new(posts, paces),
         rows,
         watches,
@@ -340,7 +344,7 @@ fn serve_line<K: Component + Send, G: Gate + Sync, R: Threads + Wait + Sync>(
     let Ok(laid) = lay(alloc, processes, workers) else {
         return Err(crew);
     };
-    let Laid {
+    let LaidLines {
         lines,
         rows,
         watches,

@@ -21,6 +21,22 @@ pub(crate) const BURSTS_OF_A_LENGTH: u32 = 16;
 /// after all, and the system had taken the processor from its worker, they cost some 50 microseconds, by reckoning: what the shortest sleep takes.
 pub(crate) const TURNS_AFTER_A_SLOW_ONE: u64 = 1_024;
 
+/// After so many turns of one process those are pushed whom they made ready. Were each pushed at once, another worker would claim it for a packet or two,
+/// where the process that is held sends to several by turns. Between connections of ten packets one process makes so many turns, ten receives and ten sends,
+/// before it is blocked: nobody waits longer for one that sends to several than for one that sends to one.
+pub(crate) const PUSHED_AFTER: u32 = 20;
+
+/// For so many of those whom it made ready a worker has places until it pushes them. A turn makes hardly more than one ready, so in `PUSHED_AFTER` turns they
+/// aren't more; where they are, as behind a close of many connections, all are pushed sooner, which costs a worker more at the line and nothing else.
+pub(crate) const UNPUSHED_PLACES: usize = 32;
+
+/// The first sleep of a worker that finds nothing, in microseconds: about what the system takes to begin a sleep and to end it.
+pub(crate) const SHORTEST_SLEEP: u64 = 50;
+
+/// Its longest sleep, in microseconds. No process that becomes ready is left lying for longer because all others sleep. A worker that wakes so often to
+/// find nothing takes some sixtieth of a processor, by reckoning: a sleep costs what the shortest one lasts.
+pub(crate) const LONGEST_SLEEP: u64 = 3_200;
+
 /// Where a burst has at most so many turns, those whom it made ready are worth waking a worker for: that takes some microseconds, and such turns ten.
 pub(crate) const CALLS_UP_TO: u32 = 2;
 

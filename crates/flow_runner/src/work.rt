@@ -5,7 +5,7 @@ ghost use Rattle.flow_machine.specs.Thoughts.{IsSet, PassesFirst};
 ghost use Rattle.flow_runner.specs.Attempts.{Adds, LetsGo, MayGo, PassesInAttempt, Spends, made_in};
 ghost use Rattle.flow_runner.specs.Lines.{IsPassAt};
 ghost use Rattle.flow_runner.specs.Serving.{names_of, IsLineFor, MayStandIn, Pushes, PushesBut};
-ghost use Rattle.flow_runner.specs.declared.readied.TheConstants.{PUSHED_AFTER};
+ghost use Rattle.flow_runner.specs.declared.tuned.TheConstants.{PUSHED_AFTER};
 ghost use Rattle.std.specs.Prelude.{◌≡◌, ◌+◌, ◌<◌, ◌≤◌, ℕ, ◌++◌, [], ◌∷◌, ◌⊎◌};
 
 use crate::line::{Line, LinePass};

@@ -45,6 +45,7 @@ pub is-place : (found : Option ℕ) (place : ℕ) → option_eq eqb found (Some 
 is-place None place is = absurd (false≢true is)
 is-place (Some other) place is = ap (λ (k : ℕ). Some k) (eqb-true other place is)
 
+-- A place that differs by the test isn't the one that was found.
 pub not-place : (found : Option ℕ) (place : ℕ) → option_eq eqb found (Some place) ≡ false → found ≡ Some place → ⊥
 not-place None place is same = absurd cc
 not-place (Some other) place is same = let here : other ≡ place = cc in false≢true (sym is ∙ eq-eqb other place here)

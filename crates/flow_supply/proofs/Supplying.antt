@@ -58,6 +58,7 @@ all-specs {P = P} own parts specs_left parts_left kinds all s =
     ends (specs_of (offers_of kinds)) specs_left own s.specs
     (length-map (offers_of kinds) (λ (o : Offer). o.spec) ∙ length-map kinds (λ (k : OwnKind P). record { spec = k.spec; parts = length k.parts.items }) ∙ all)
 
+-- So were all parts.
 pub all-parts : {P : Type 0} (own : List KindSpec) (parts : List (Vec P Global)) (specs_left : List KindSpec) (parts_left : List (Vec P Global)) (kinds : List (OwnKind P)) → length kinds ≡ length parts
     → KindsSoFar own parts specs_left parts_left kinds → handed_in kinds ≡ parts_in parts
 all-parts {P = P} own parts specs_left parts_left kinds all s =

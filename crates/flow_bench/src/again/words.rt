@@ -6,14 +6,14 @@ use flow_limits::WORKER_LIMIT;
 
 /// What the words ask for.
 #[derive(Drop)]
-pub struct Asked<'a> {
+pub struct Comparison<'a> {
     pub workers: u32,
     pub net: &'a str,
     pub input: &'a str,
 }
 
 /// What these words ask for, if they are a number of workers and the names of two files.
-pub fn asked_by(words: &[String]) -> Option<Asked<'_>>
+pub fn asked_by(words: &[String]) -> Option<Comparison<'_>>
     ensures { IfSome result (λ asked. (1 ≤ asked.workers) × (asked.workers ≤ WORKER_LIMIT)) }
 {
     let [workers, net, input] = words else {
@@ -25,7 +25,7 @@ pub fn asked_by(words: &[String]) -> Option<Asked<'_>>
     if workers < 1 || workers > WORKER_LIMIT {
         return None;
     }
-    Some(Asked {
+    Some(Comparison {
         workers,
         net: net.as_str(),
         input: input.as_str(),

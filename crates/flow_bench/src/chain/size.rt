@@ -6,7 +6,7 @@ pub const LINE_LIMIT: u32 = 1_048_576;
 
 /// How many processes pass lines on, and how many lines the reader has.
 #[derive(Clone, Copy, Debug, PartialEq, Eq)]
-pub struct Size {
+pub struct ChainSize {
     pub passers: u32,
     pub lines: u32,
 }
@@ -22,15 +22,15 @@ fn number(word: &str, least: u32, most: u32) -> Option<u32>
     }
 }
 
-impl Size {
+impl ChainSize {
     ghost use Rattle.flow_bench.specs.ChainSizes.{IsSize};
 
     /// The size that two words name: from 1 to 100 passers, and at most `LINE_LIMIT` lines.
-    pub fn named(words: &[String]) -> Option<Size>
+    pub fn named(words: &[String]) -> Option<ChainSize>
         ensures { IfSome result IsSize }
     {
         match words {
-            [passers, lines] => Some(Size {
+            [passers, lines] => Some(ChainSize {
                 passers: number(passers, 1, 100)?,
                 lines: number(lines, 0, LINE_LIMIT)?,
             }),

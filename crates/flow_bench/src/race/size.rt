@@ -11,7 +11,7 @@ pub const ROUND_LIMIT: u32 = 1_000_000;
 
 /// How many workers run the network, how many packets each branch has, and how many rounds of work each process does on a packet.
 #[derive(Clone, Copy, Debug, PartialEq, Eq)]
-pub struct Size {
+pub struct RaceSize {
     /// 0 stands for one thread without a floor.
     pub workers: u32,
     pub packets: u32,
@@ -28,15 +28,15 @@ fn number(word: &str, most: u32) -> Option<u32>
     }
 }
 
-impl Size {
+impl RaceSize {
     ghost use Rattle.flow_bench.specs.RaceSizes.{IsSize};
 
     /// The size that three words name.
-    pub fn named(words: &[String]) -> Option<Size>
+    pub fn named(words: &[String]) -> Option<RaceSize>
         ensures { IfSome result IsSize }
     {
         match words {
-            [workers, packets, rounds] => Some(Size {
+            [workers, packets, rounds] => Some(RaceSize {
                 workers: number(workers, WORKER_LIMIT)?,
                 packets: number(packets, PACKET_LIMIT)?,
                 rounds: number(rounds, ROUND_LIMIT)?,

@@ -5,7 +5,7 @@ use Rattle.flow_cli.proofs.ran.account_of.Goals as goal
 
 pub returns-clause-journal : goal.returns-clause-journal
 returns-clause-journal g c =
-    let made = c.turns_made-few.ensures in
+    let made = c.turns_made-turns.ensures in
     let journal = c.in_ok-merge.field-0 in
     let named = ap length (c.in_ok-merge.ensures.turns made.log.0 made.log.1) in
     let counted = length-map made.log.0 (λ turn. turn.process) in

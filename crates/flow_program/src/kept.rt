@@ -1,27 +1,8 @@
-//! The words with which a program was called.
+//! Which files a run is to keep, as its words name them.
 use flow_files::FileShelf;
 use flow_words::{Command, command};
 use std::alloc::{AllocError, Global};
 use std::fs::{File, Files};
-use std::{env, io};
-
-/// The words after the program's name. Words that are no text are no command line, as no words are.
-pub fn words_of(alloc: Global, args: io::Result<env::Args>) -> Result<Vec<String>, AllocError> {
-    match args {
-        Ok(args) => words_behind(alloc, args),
-        Err(error) if error.kind() == io::ErrorKind::OutOfMemory => Err(AllocError),
-        Err(_) => Ok(Vec::new(alloc)),
-    }
-}
-
-// The words but for the first, which is the program's name.
-fn words_behind(alloc: Global, args: env::Args) -> Result<Vec<String>, AllocError> {
-    let mut words = Vec::new(alloc);
-    for word in args.skip(1) {
-        words.push(word)?;
-    }
-    Ok(words)
-}
 
 /// Tells the shelf to which files the run that these words ask for keeps its journal, its tapes and its report.
 pub fn expect_kept<R: Files<File = File> + Drop>(

@@ -12,7 +12,7 @@ use std::thread::Threads;
 
 /// Where a row stands.
 #[derive(Drop)]
-pub struct Stage {
+pub struct Course {
     alloc: Global,
     around: Around,
     /// What came of the last call, and what the one before it printed.
@@ -24,10 +24,10 @@ pub struct Stage {
     told: String,
 }
 
-impl Stage {
+impl Course {
     /// A row's beginning.
-    pub fn new(alloc: Global) -> Stage {
-        Stage {
+    pub fn new(alloc: Global) -> Course {
+        Course {
             alloc,
             around: Around::new(alloc),
             came: None,
