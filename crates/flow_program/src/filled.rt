@@ -2,6 +2,7 @@
 ghost use Rattle.std.specs.Prelude.{◌≤◌, length};
 
 use crate::call::{call, handed_in};
+use crate::early::try_outputs;
 use crate::explain::{Fault, explain, explain_failed, file_of, foresee};
 use crate::given::{Refusal, refusal_of, texts_page};
 use crate::own::{Known, Supply};
@@ -119,7 +120,17 @@ pub fn filled_call<
         Ok(net) => net,
         Err(stop) => {
             let stop = read_stop(alloc, stop, name.as_str());
-            return unread(alloc, rt, out, err, own, &shelf, &stop, supply.known());
+            return unmade(
+                alloc,
+                rt,
+                out,
+                err,
+                own,
+                &shelf,
+                &stop,
+                None,
+                supply.known(),
+            );
         }
     };
     if is_third(&net) {
@@ -130,8 +141,8 @@ pub fn filled_call<
     shelf_call(alloc, rt, out, err, words, shelf, None, supply)
 }
 
-// Says that the network file couldn't be read.
-fn unread<
+// Says why a call wasn't made, and explains it. Where the network file is filled, this is its text, with where the lines begin of the files that it uses.
+fn unmade<
     R: Files<File = File> + Eprint + Threads + Wait + Sync + Drop,
     P: Print + Drop,
     Q: Print + Drop,
@@ -143,6 +154,7 @@ fn unread<
     words: &[String],
     shelf: &FileShelf<&R>,
     stop: &Stop,
+    joined: Option<&Joined>,
     known: &Known,
 ) -> Status {
     let status = stopped(alloc, out, err, stop);
@@ -151,7 +163,14 @@ fn unread<
         reason: printing.or(shelf.reason()),
         file: file_of(printing.is_some(), shelf.last()),
     };
-    explain(alloc, rt, words, status, fault, None, None, known);
+    let (filled, origins) = match joined {
+        Some(joined) => (
+            Some(joined.text.as_slice()),
+            Some(joined.origins.as_slice()),
+        ),
+        None => (None, None),
+    };
+    explain(alloc, rt, words, status, fault, filled, origins, known);
     status
 }
 
@@ -187,7 +206,38 @@ fn net_call<
     }
 }
 
-// Puts the subnets of the files that the network file uses behind its text, and makes the call on that.
+// Tries the files that a call on this text is to write. Where one can't be written, that is said at once, and the call ends so.
+fn refused_early<
+    R: Files<File = File> + Eprint + Threads + Wait + Sync + Drop,
+    P: Print + Drop,
+    Q: Print + Drop,
+>(
+    alloc: Global,
+    rt: &R,
+    out: &mut StdSink<P>,
+    err: &mut StdSink<Q>,
+    words: &[String],
+    shelf: &mut FileShelf<&R>,
+    joined: &Joined,
+    known: &Known,
+) -> Option<Status> {
+    match try_outputs(alloc, shelf, words, &joined.text, known) {
+        Ok(()) => None,
+        Err(stop) => Some(unmade(
+            alloc,
+            rt,
+            out,
+            err,
+            words,
+            shelf,
+            &stop,
+            Some(joined),
+            known,
+        )),
+    }
+}
+
+// Puts the subnets of the files that the network file uses behind its text, tries the files that the call is to write, and makes it on that text.
 fn joined_call<
     R: Files<File = File> + Eprint + Threads + Wait + Sync + Drop,
     P: Print + Drop,
@@ -207,20 +257,21 @@ fn joined_call<
     supply: &mut S,
 ) -> Status {
     match with_used(alloc, &mut shelf, name.as_str(), net, text) {
-        Ok(Joined { text, origins }) => {
+        Ok(joined) => {
+            let known = supply.known();
+            if let Some(status) = refused_early(
+                alloc, rt, out, err, words, &mut shelf, &joined, known,
+            ) {
+                return status;
+            }
+            let Joined { text, origins } = joined;
             let shelf = FilledShelf::new(alloc, shelf, name, text);
             shelf_call(alloc, rt, out, err, words, shelf, Some(&origins), supply)
         }
-        Err(UsedStop::Stop(stop)) => unread(
-            alloc,
-            rt,
-            out,
-            err,
-            words,
-            &shelf,
-            &stop,
-            supply.known(),
-        ),
+        Err(UsedStop::Stop(stop)) => {
+            let known = supply.known();
+            unmade(alloc, rt, out, err, words, &shelf, &stop, None, known)
+        }
         Err(UsedStop::Refused { line, told }) => {
             let status = print_text(out, err, &line, b"", Status::Refused);
             if let Some(told) = told {
