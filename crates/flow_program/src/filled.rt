@@ -23,6 +23,9 @@ use std::io;
 use std::sync::Wait;
 use std::thread::Threads;
 
+// What is said besides of a network file that is too long when it is filled.
+const OVERFILLED: &str = "With the texts for its words this one has more.\n";
+
 /// The network file whose words are asked for. Behind a word `--` stands the name of a file, and no option.
 pub fn texts_of(words: &[String]) -> Option<&str> {
     if words.len() != 2 {
@@ -174,6 +177,27 @@ fn unmade<
     status
 }
 
+// Says that the network file of this name is too long when it is filled.
+fn overfilled<
+    R: Files<File = File> + Eprint + Threads + Wait + Sync + Drop,
+    P: Print + Drop,
+    Q: Print + Drop,
+>(
+    alloc: Global,
+    rt: &R,
+    out: &mut StdSink<P>,
+    err: &mut StdSink<Q>,
+    words: &[String],
+    shelf: &FileShelf<&R>,
+    name: String,
+    known: &Known,
+) -> Status {
+    let stop = Stop::TooLong(name);
+    let status = unmade(alloc, rt, out, err, words, shelf, &stop, None, known);
+    let _ = rt.eprint(OVERFILLED);
+    status
+}
+
 // Fills the network file with what these texts give, and makes the call on it.
 fn net_call<
     R: Files<File = File> + Eprint + Threads + Wait + Sync + Drop,
@@ -202,6 +226,10 @@ fn net_call<
             Ok(refusal) => refused(out, err, &refusal),
             Err(AllocError) => unremembered(out, err),
         },
+        Err(FillStop::TooLong) => {
+            let known = supply.known();
+            overfilled(alloc, rt, out, err, words, &shelf, name, known)
+        }
         Err(FillStop::NoMemory) => unremembered(out, err),
     }
 }
