@@ -21,6 +21,7 @@ pub use again::replay_net;
 pub use crew::{run_alone, run_by_workers};
 pub use flow_load::{OwnKind, Status};
 pub use live::{LiveNet, LiveWorked};
+pub use outputs::written_name;
 pub use ran::{Account, PrintedReport, Ran, report_of};
 pub use run::{Done, KeptFile, Said, Unwritten};
 pub use top::{Outcome, busy_top, needs_workers, plain_top};

@@ -153,16 +153,18 @@ fn put_port(page: &mut String, port: &PortSpec) -> Result<(), AllocError> {
     if port.array {
         write!(page, "[0] to [{LAST_ELEMENT}]")?;
     }
-    page.push_str(use_of(is_option(port), port.needed))
+    page.push_str(use_of(port.class, port.needed))
 }
 
 // What is said of the use of a port, where it isn't one for packets that has to be connected.
-fn use_of(is_option: bool, needed: bool) -> &'static str {
-    match (is_option, needed) {
-        (true, true) => " (a text)",
-        (true, false) => " (a text, which may be left out)",
-        (false, true) => "",
-        (false, false) => " (may be left open)",
+fn use_of(class: PortClass, needed: bool) -> &'static str {
+    match (class, needed) {
+        (PortClass::Stream, true) => "",
+        (PortClass::Stream, false) => " (may be left open)",
+        (PortClass::Number { .. }, true) => " (a number)",
+        (PortClass::Number { .. }, false) => " (a number, which may be left out)",
+        (_, true) => " (a text)",
+        (_, false) => " (a text, which may be left out)",
     }
 }
 

@@ -42,10 +42,18 @@ fn put_too_few(
     processes: usize,
     parts: usize,
 ) -> Result<(), AllocError> {
-    write!(page, "The network has {processes} processes of the kind ")?;
+    let noun = if processes == 1 {
+        "process"
+    } else {
+        "processes"
+    };
+    write!(page, "The network has {processes} {noun} of the kind ")?;
     put_word(page, kind.name.as_slice())?;
-    write!(
-        page,
-        ", and there are {parts} parts of it, one for each process.\nA program of your own may hand in more.\n"
-    )
+    page.push_str(", and ")?;
+    if parts == 1 {
+        page.push_str("there is 1 part")?;
+    } else {
+        write!(page, "there are {parts} parts")?;
+    }
+    page.push_str(" of it, one for each process.\nA program of your own may hand in more.\n")
 }

@@ -123,18 +123,24 @@ impl Known {
     /// Whether an open file may be written over. The network file may not. Of what is another file of this call the
     /// standard error tells.
     pub fn admit<R: Eprint>(&self, rt: &R, name: &str, file: &File) -> io::Result<()> {
+        if let Some(told) = self.judge(name, file)? {
+            let _ = eprintln!(rt; "{name:?} {told}");
+        }
+        Ok(())
+    }
+
+    /// The same of an open file, and nothing is told: what there is to tell is the answer.
+    pub fn judge(&self, name: &str, file: &File) -> io::Result<Option<&'static str>> {
         let file = regular(file.metadata());
         if let Some(kept) = self.kept_as(name) {
             self.admit_as(kept, file)?;
         }
-        let told = match self.part_of(file) {
-            None => return Ok(()),
-            Some(Part::Network) => return Err(refused("this file is the network file")),
-            Some(Part::Input) => "is an input too, and is written over",
-            Some(Part::Output) => "is written twice, and keeps what comes last",
-        };
-        let _ = eprintln!(rt; "{name:?} {told}");
-        Ok(())
+        match self.part_of(file) {
+            None => Ok(None),
+            Some(Part::Network) => Err(refused("this file is the network file")),
+            Some(Part::Input) => Ok(Some("is an input too, and is written over")),
+            Some(Part::Output) => Ok(Some("is written twice, and keeps what comes last")),
+        }
     }
 
     /// What the file of this name keeps of the run.

@@ -65,6 +65,52 @@ pub fn begin<R: Files<File = File> + Eprint>(
     }
 }
 
+/// Tries whether a file could be begun, and leaves all as it is: what was begun is given up. What would be written in
+/// place, as a device, a pipe and what a descriptor's name leads to, isn't opened, and is no fault here. Of what may be
+/// written over nothing is told.
+pub fn try_begin<R: Files<File = File> + Eprint>(
+    alloc: Global,
+    rt: &R,
+    known: &Known,
+    name: &str,
+) -> Result<(), OutputError> {
+    known.admit_kept(rt)?;
+    if is_special(rt, name) {
+        return Ok(());
+    }
+    match place_of(alloc, rt, name)? {
+        Place::System => Ok(()),
+        Place::Name(spot) => try_spot(alloc, rt, known, name, spot),
+    }
+}
+
+/// Whether the name leads to a device, a pipe or the like. The look opens nothing: a pipe would wait for its reader.
+fn is_special<R: Files<File = File>>(rt: &R, name: &str) -> bool {
+    match rt.metadata(name) {
+        Ok(found) => !found.is_file() && !found.is_dir(),
+        Err(_) => false,
+    }
+}
+
+/// Tries whether a file of this name could be begun in its place.
+fn try_spot<R: Files<File = File>>(
+    alloc: Global,
+    rt: &R,
+    known: &Known,
+    name: &str,
+    mut spot: Spot,
+) -> Result<(), OutputError> {
+    let output = match spot.old.take() {
+        Some(old) => {
+            let _untold = known.judge(name, &old)?;
+            begin_over(alloc, rt, spot, old)?
+        }
+        None => beside(alloc, rt, spot, SHARED)?,
+    };
+    output.abandon(rt);
+    Ok(())
+}
+
 /// Begins what the system tells of under this name.
 fn begin_of_system<R: Files<File = File> + Eprint>(
     rt: &R,

@@ -1,7 +1,8 @@
 -- A filled line has no byte that ends a line.
-use Rattle.std.proofs.Common.{◌≡◌, ◌≢◌, ℕ, ◌+◌, suc, Bool, true, false, cond, eqb, List, [], ◌∷◌, ◌++◌, take, drop, Option, Some, None, refl, sym, ap, ◌∙◌, arith}
-use Rattle.std.specs.Prelude.{option_map, option_and_then, find, codes}
+use Rattle.std.proofs.Common.{◌≡◌, ◌≢◌, ℕ, ◌+◌, suc, Bool, true, false, cond, eqb, List, [], ◌∷◌, ◌++◌, take, drop, Option, Some, None, Vec, refl, sym, ap, ◌∙◌, arith}
+use Rattle.std.specs.Prelude.{IfSome, option_map, option_and_then, find, codes}
 use Rattle.std.specs.List.{AllByRecursion, position, position_from, prefix_len}
+use Rattle.std.specs.declared.alloc.Global.{Global}
 use Rattle.std.specs.Str.{bytes_eq}
 use Rattle.std.proofs.lemmas.Bool.{eqb-false}
 use Rattle.std.proofs.lemmas.Iterator.Adapters.{position_from-zero}
@@ -206,6 +207,12 @@ pub filled_text : (given : List Given) (words : List FileWord) (text bytes : Lis
 filled_text given words text bytes rows cut none made =
     let fine = no_fault_given words [] 0 given (first_none (given_fault words [] 0 given) (missing given words) none).0 in
     ap lines (made ∙ ap (λ (r : List (List ℕ)). text_of (filled_lines Head given r)) cut) ∙ text_lines (filled_lines Head given (lines text)) (all_filled_in_line Head given (lines text) fine (lines_in_line text))
+
+-- So it has, where there is one.
+pub filled_made : (given : List Given) (words : List FileWord) (text : List ℕ) (made : Option (Vec ℕ Global)) (rows : List (List ℕ)) → rows ≡ lines text → fault_in words given ≡ None
+    → IfSome made (λ bytes. bytes.items ≡ text_of (filled_lines Head given rows)) → IfSome made (λ bytes. lines bytes.items ≡ filled_lines Head given (lines text))
+filled_made given words text None rows cut none made = tt
+filled_made given words text (Some bytes) rows cut none made = filled_text given words text bytes.items rows cut none made
 
 -- The text of a file of another version has the filled lines, which are its own.
 pub same_text : (given : List Given) (text bytes : List ℕ) (rows : List (List ℕ)) → rows ≡ lines text → is_third rows ≡ false → bytes ≡ text → lines bytes ≡ filled_lines Head given (lines text)

@@ -1,5 +1,5 @@
 -- Steps of going over the lines of a file.
-use Rattle.std.proofs.Common.{◌≡◌, ℕ, suc, Bool, true, false, cond, List, [], ◌∷◌, ◌++◌, length, refl, sym, ap, ◌∙◌, append_assoc, ◌≤◌}
+use Rattle.std.proofs.Common.{◌≡◌, ℕ, suc, Bool, true, false, cond, List, [], ◌∷◌, ◌++◌, length, length-append, refl, sym, ap, ◌∙◌, ◌+◌, append_assoc, arith, ◌<◌, ◌≤◌}
 use Rattle.std.specs.List.{flat_map, prefix_len}
 use Rattle.std.proofs.lemmas.List.Sums.{prefix_len-le-length}
 use Rattle.flow_parse.specs.Spelling.{is_word_byte}
@@ -29,6 +29,10 @@ fill_on place next given here rest line filled whole out new so_far cut fills af
     let more = text_of (filled_lines (place_after place line) given rest) in
     so_far ∙ ap (λ (l : List (List ℕ)). out ++ text_of (filled_lines place given l)) cut ∙ sym (append_assoc out (ended (filled_line place given line)) more) ∙ ap (λ (l : List ℕ). (out ++ ended l) ++ more) (sym fills)
     ∙ ap (λ (l : List ℕ). l ++ more) (sym after) ∙ ap (λ (p : Place). new ++ text_of (filled_lines p given rest)) (sym moves)
+
+-- A text is longer than what its beginning is longer than.
+pub longer : (limit : ℕ) (whole new rest : List ℕ) → whole ≡ new ++ rest → limit < length new → limit < length whole
+longer limit whole new rest is more = let e : length whole ≡ length new + length rest = ap length is ∙ length-append new rest in omega arith
 
 -- The words of one line more are known.
 pub words_on : (n m : ℕ) (place next : Place) (here rest : List (List ℕ)) (line : List ℕ) (whole words new : List FileWord) → whole ≡ words ++ words_from n place here → here ≡ line ∷ rest

@@ -1,14 +1,16 @@
 -- Why no text is made of a file and the texts that a call gives its words.
-use Rattle.std.specs.Prelude.{ℕ, suc, List, [], ◌∷◌, ◌++◌, Option, Some, None, Bool, ◌==◌, is_none, if◌then◌else◌, option_map}
+use Rattle.std.specs.Prelude.{ℕ, suc, ◌<◌, List, [], ◌∷◌, ◌++◌, length, Option, Some, None, Bool, ◌==◌, is_none, if◌then◌else◌, option_map}
 use Rattle.std.specs.List.{list_any, position}
 use Rattle.std.specs.Str.{bytes_eq}
+use Rattle.flow_limits.specs.declared.TheConstants.{FILE_LIMIT}
 use Rattle.flow_fill.specs.declared.word.Given.{Given}
 use Rattle.flow_fill.specs.declared.word.FileWord.{FileWord}
 use Rattle.flow_fill.specs.declared.fault.FillFault.{FillFault}
 use Rattle.flow_fill.specs.declared.fault.FillFault.TheVariants.{Twice, Unknown, Unspelled, NoText}
 use Rattle.flow_fill.specs.declared.fault.FillStop.{FillStop}
-use Rattle.flow_fill.specs.declared.fault.FillStop.TheVariants.{Fault, NoMemory}
-use Rattle.flow_fill.specs.Filling.{text_for}
+use Rattle.flow_fill.specs.declared.fault.FillStop.TheVariants.{Fault, TooLong, NoMemory}
+use Rattle.flow_fill.specs.declared.place.Place.TheVariants.{Head}
+use Rattle.flow_fill.specs.Filling.{filled_lines, text_for, text_of}
 
 -- One of these gives a text to the word of this name.
 abbrev pub is_given : List Given → List ℕ → Bool
@@ -47,7 +49,18 @@ missing given words = option_map (λ place. NoText place) (position (is_textless
 abbrev pub fault_in : List FileWord → List Given → Option FillFault
 fault_in words given = first_of (given_fault words [] 0 given) (missing given words)
 
--- What is said of the fault, unless memory ran out.
+-- What is said of the fault, where there is one.
 abbrev pub IfFault : FillStop → (FillFault → Type 0) → Type 0
 IfFault (Fault fault) P = P fault
+IfFault TooLong P = Unit {0}
 IfFault NoMemory P = Unit {0}
+
+-- What is said where the text is too long.
+abbrev pub IfLong : FillStop → Type 0 → Type 0
+IfLong (Fault fault) P = Unit {0}
+IfLong TooLong P = P
+IfLong NoMemory P = Unit {0}
+
+-- The text that these lines of a file of version 3 come to has more bytes than a network file may have.
+abbrev pub IsTooLong : List Given → List (List ℕ) → Type 0
+IsTooLong given lines = FILE_LIMIT < length (text_of (filled_lines Head given lines))

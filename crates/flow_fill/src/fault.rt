@@ -19,6 +19,8 @@ pub enum FillFault {
 #[derive(Debug, Clone, Copy, PartialEq, Eq)]
 pub enum FillStop {
     Fault(FillFault),
+    /// It has no fault, and comes to more bytes than a network file may have.
+    TooLong,
     NoMemory,
 }
 

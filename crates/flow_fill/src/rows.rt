@@ -1,6 +1,7 @@
 //! Lines, one after another.
-ghost use Rattle.std.specs.Prelude.{◌≡◌, [], ◌∷◌, ◌++◌, OnOk, IfOk, map, option_map};
+ghost use Rattle.std.specs.Prelude.{◌≡◌, ◌≤◌, [], ◌∷◌, ◌++◌, OnOk, IfOk, IfSome, IfNone, length, map, option_map};
 ghost use Rattle.flow_parse.specs.Spelling.{doubled};
+ghost use Rattle.flow_fill.specs.Faults.{IsTooLong};
 ghost use Rattle.flow_fill.specs.Reading.{use_line};
 ghost use Rattle.flow_fill.specs.Filling.{ended, filled_line, filled_lines, given_text, head_line, initial_line, is_third, main_line, used_line, place_after, text_for, text_of, word_here, words_from, words_in};
 
@@ -9,6 +10,7 @@ use crate::place::Place;
 use crate::reading::{begins, header, read_use_line, read_word_line, remark};
 use crate::word::{FileWord, Given};
 use flow_items::Text;
+use flow_limits::FILE_LIMIT;
 use std::alloc::{AllocError, Global};
 
 /// Whether these are the lines of a file of version 3.
@@ -181,9 +183,16 @@ pub fn put_line(out: &mut Vec<u8>, line: &[u8]) -> Result<(), AllocError>
     Ok(())
 }
 
-/// The text of lines, each filled.
-pub fn fill_lines(alloc: Global, lines: &[Vec<u8>], given: &[Given]) -> Result<Vec<u8>, AllocError>
-    ensures { IfOk result (λ text. text.items ≡ text_of (filled_lines Place.Head given.now (map (λ line. line.items) lines.now))) }
+/// The text of lines, each filled, and none where it has more bytes than a network file may have: no line behind the one with the first byte too many is
+/// filled.
+pub fn fill_lines(
+    alloc: Global,
+    lines: &[Vec<u8>],
+    given: &[Given],
+) -> Result<Option<Vec<u8>>, AllocError>
+    ensures text { IfOk result (λ made. IfSome made (λ text. text.items ≡ text_of (filled_lines Place.Head given.now (map (λ line. line.items) lines.now)))) }
+    ensures within { IfOk result (λ made. IfSome made (λ text. length text.items ≤ FILE_LIMIT)) }
+    ensures long { IfOk result (λ made. IfNone made (IsTooLong given.now (map (λ line. line.items) lines.now))) }
 {
     let mut out = Vec::new(alloc);
     let mut place = Place::Head;
@@ -191,9 +200,12 @@ pub fn fill_lines(alloc: Global, lines: &[Vec<u8>], given: &[Given]) -> Result<V
         let line = line.as_slice();
         let filled = fill_line(alloc, place, given, line)?;
         put_line(&mut out, filled.as_slice())?;
+        if out.len() as u64 > FILE_LIMIT {
+            return Ok(None);
+        }
         place = place.after(line);
     }
-    Ok(out)
+    Ok(Some(out))
 }
 
 fn add_word(

@@ -1,6 +1,7 @@
 //! Rows: a network file, the texts that are given, and what comes of them.
 use flow_fill::{FillFault, FillStop, Given, fill, is_third, join, used_of, words_of};
 use flow_items::Text;
+use flow_limits::FILE_LIMIT;
 use std::alloc::{AllocError, Global};
 use std::test::Fail;
 
@@ -120,6 +121,31 @@ fn files_are_filled(rt: HostRuntime) -> Result<(), Fail> {
     for row in &ROWS {
         assert!(rt; holds(rt.alloc(), row)?, "of {}", row.net);
     }
+    Ok(())
+}
+
+// A text of so many bytes for the word A.
+fn long_text(alloc: Global, length: usize) -> Result<Vec<Given>, AllocError> {
+    let bytes = vec![in alloc; b'x'; length]?;
+    let mut given = Vec::new(alloc);
+    given.push(Given {
+        word: Text::from_slice(alloc, b"A")?,
+        text: Text::from_slice(alloc, &bytes)?,
+    })?;
+    Ok(given)
+}
+
+#[test]
+fn a_filled_file_is_no_longer_than_a_network_file(rt: HostRuntime) -> Result<(), Fail> {
+    let alloc = rt.alloc();
+    let net = b"flow 3\ninport A -> X P\n";
+    // The header, two quotes, the arrow with what stands behind it, and two line ends.
+    let most = FILE_LIMIT as usize - 17;
+    let given = long_text(alloc, most)?;
+    assert!(rt; fill(alloc, net, &given)?.len() == FILE_LIMIT as usize);
+    let given = long_text(alloc, most + 1)?;
+    let is_refused = matches!(fill(alloc, net, &given), Err(FillStop::TooLong));
+    assert!(rt; is_refused);
     Ok(())
 }
 

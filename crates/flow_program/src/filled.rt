@@ -2,6 +2,7 @@
 ghost use Rattle.std.specs.Prelude.{◌≤◌, length};
 
 use crate::call::{call, handed_in};
+use crate::early::try_outputs;
 use crate::explain::{Fault, explain, explain_failed, file_of, foresee};
 use crate::given::{Refusal, refusal_of, texts_page};
 use crate::kept::expect_kept;
@@ -21,6 +22,9 @@ use std::fs::{File, Files};
 use std::io;
 use std::sync::Wait;
 use std::thread::Threads;
+
+// What is said besides of a network file that is too long when it is filled.
+const OVERFILLED: &str = "With the texts for its words this one has more.\n";
 
 /// The network file whose words are asked for. Behind a word `--` stands the name of a file, and no option.
 pub fn texts_of(words: &[String]) -> Option<&str> {
@@ -119,7 +123,17 @@ pub fn filled_call<
         Ok(net) => net,
         Err(stop) => {
             let stop = read_stop(alloc, stop, name.as_str());
-            return unread(alloc, rt, out, err, own, &shelf, &stop, supply.known());
+            return unmade(
+                alloc,
+                rt,
+                out,
+                err,
+                own,
+                &shelf,
+                &stop,
+                None,
+                supply.known(),
+            );
         }
     };
     if is_third(&net) {
@@ -130,8 +144,8 @@ pub fn filled_call<
     shelf_call(alloc, rt, out, err, words, shelf, None, supply)
 }
 
-// Says that the network file couldn't be read.
-fn unread<
+// Says why a call wasn't made, and explains it. Where the network file is filled, this is its text, with where the lines begin of the files that it uses.
+fn unmade<
     R: Files<File = File> + Eprint + Threads + Wait + Sync + Drop,
     P: Print + Drop,
     Q: Print + Drop,
@@ -143,6 +157,7 @@ fn unread<
     words: &[String],
     shelf: &FileShelf<&R>,
     stop: &Stop,
+    joined: Option<&Joined>,
     known: &Known,
 ) -> Status {
     let status = stopped(alloc, out, err, stop);
@@ -151,7 +166,35 @@ fn unread<
         reason: printing.or(shelf.reason()),
         file: file_of(printing.is_some(), shelf.last()),
     };
-    explain(alloc, rt, words, status, fault, None, None, known);
+    let (filled, origins) = match joined {
+        Some(joined) => (
+            Some(joined.text.as_slice()),
+            Some(joined.origins.as_slice()),
+        ),
+        None => (None, None),
+    };
+    explain(alloc, rt, words, status, fault, filled, origins, known);
+    status
+}
+
+// Says that the network file of this name is too long when it is filled.
+fn overfilled<
+    R: Files<File = File> + Eprint + Threads + Wait + Sync + Drop,
+    P: Print + Drop,
+    Q: Print + Drop,
+>(
+    alloc: Global,
+    rt: &R,
+    out: &mut StdSink<P>,
+    err: &mut StdSink<Q>,
+    words: &[String],
+    shelf: &FileShelf<&R>,
+    name: String,
+    known: &Known,
+) -> Status {
+    let stop = Stop::TooLong(name);
+    let status = unmade(alloc, rt, out, err, words, shelf, &stop, None, known);
+    let _ = rt.eprint(OVERFILLED);
     status
 }
 
@@ -183,11 +226,46 @@ fn net_call<
             Ok(refusal) => refused(out, err, &refusal),
             Err(AllocError) => unremembered(out, err),
         },
+        Err(FillStop::TooLong) => {
+            let known = supply.known();
+            overfilled(alloc, rt, out, err, words, &shelf, name, known)
+        }
         Err(FillStop::NoMemory) => unremembered(out, err),
     }
 }
 
-// Puts the subnets of the files that the network file uses behind its text, and makes the call on that.
+// Tries the files that a call on this text is to write. Where one can't be written, that is said at once, and the call ends so.
+fn refused_early<
+    R: Files<File = File> + Eprint + Threads + Wait + Sync + Drop,
+    P: Print + Drop,
+    Q: Print + Drop,
+>(
+    alloc: Global,
+    rt: &R,
+    out: &mut StdSink<P>,
+    err: &mut StdSink<Q>,
+    words: &[String],
+    shelf: &mut FileShelf<&R>,
+    joined: &Joined,
+    known: &Known,
+) -> Option<Status> {
+    match try_outputs(alloc, shelf, words, &joined.text, known) {
+        Ok(()) => None,
+        Err(stop) => Some(unmade(
+            alloc,
+            rt,
+            out,
+            err,
+            words,
+            shelf,
+            &stop,
+            Some(joined),
+            known,
+        )),
+    }
+}
+
+// Puts the subnets of the files that the network file uses behind its text, tries the files that the call is to write, and makes it on that text.
 fn joined_call<
     R: Files<File = File> + Eprint + Threads + Wait + Sync + Drop,
     P: Print + Drop,
@@ -207,20 +285,21 @@ fn joined_call<
     supply: &mut S,
 ) -> Status {
     match with_used(alloc, &mut shelf, name.as_str(), net, text) {
-        Ok(Joined { text, origins }) => {
+        Ok(joined) => {
+            let known = supply.known();
+            if let Some(status) = refused_early(
+                alloc, rt, out, err, words, &mut shelf, &joined, known,
+            ) {
+                return status;
+            }
+            let Joined { text, origins } = joined;
             let shelf = FilledShelf::new(alloc, shelf, name, text);
             shelf_call(alloc, rt, out, err, words, shelf, Some(&origins), supply)
         }
-        Err(UsedStop::Stop(stop)) => unread(
-            alloc,
-            rt,
-            out,
-            err,
-            words,
-            &shelf,
-            &stop,
-            supply.known(),
-        ),
+        Err(UsedStop::Stop(stop)) => {
+            let known = supply.known();
+            unmade(alloc, rt, out, err, words, &shelf, &stop, None, known)
+        }
         Err(UsedStop::Refused { line, told }) => {
             let status = print_text(out, err, &line, b"", Status::Refused);
             if let Some(told) = told {

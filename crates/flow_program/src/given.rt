@@ -159,6 +159,7 @@ fn untexted<F: Shelf>(
     let text = match fill(alloc, net, &given) {
         Ok(text) => text,
         Err(FillStop::Fault(_)) => return Ok(Vec::new(alloc)),
+        Err(FillStop::TooLong) => return Ok(Vec::new(alloc)),
         Err(FillStop::NoMemory) => return Err(AllocError),
     };
     let alone = Vec::from_slice(alloc, &text)?;

@@ -4,6 +4,7 @@
 #![tactic(auto)]
 
 mod call;
+mod early;
 mod explain;
 mod filled;
 mod given;
