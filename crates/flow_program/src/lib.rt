@@ -7,6 +7,7 @@ mod call;
 mod explain;
 mod filled;
 mod given;
+mod meter;
 mod own;
 mod placed;
 mod top;

@@ -22,6 +22,7 @@ help_lines = codes "flow NETFILE [WORD=TEXT ..]  runs the network of the file, a
     ∷ codes "--quiet         says nothing of a run that finished with nothing left"
     ∷ codes "--brief         of what is left names ten packets, and tells how many more; with"
     ∷ codes "                --report FILE this goes to the standard error"
+    ∷ codes "--progress      tells on the standard error how far the run is"
     ∷ []
     ∷ codes "Status: 0 finished, 1 packets are left, 2 words refused, 3 network refused,"
     ∷ codes "4 stuck, 5 a process failed, 6 read fault, 7 write fault, 8 no memory,"

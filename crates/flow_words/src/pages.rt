@@ -20,6 +20,7 @@ Options of a run:
 --quiet         says nothing of a run that finished with nothing left
 --brief         of what is left names ten packets, and tells how many more; with
                 --report FILE this goes to the standard error
+--progress      tells on the standard error how far the run is
 
 Status: 0 finished, 1 packets are left, 2 words refused, 3 network refused,
 4 stuck, 5 a process failed, 6 read fault, 7 write fault, 8 no memory,
