@@ -31,7 +31,7 @@ _flow_words() {
     case ${COMP_WORDS[0]##*/} in
     draw) options='--dot --fold --journal' ;;
     *)
-        options='--brief --check --determinate --help --journal --kinds --make --quiet --replay --report --tapes --texts --version --workers'
+        options='--brief --check --determinate --help --journal --kinds --make --progress --quiet --replay --report --tapes --texts --version --workers'
         texts=$(_flow_texts "$(_flow_net)")
         ;;
     esac

@@ -13,9 +13,11 @@ use std::alloc::{AllocError, Global};
 use std::env::{self, Args};
 use std::fs::{File, Files};
 use std::io;
+use std::io::IsTerminal;
 use std::process::ExitCode;
 use std::sync::Wait;
 use std::thread::Threads;
+use std::time::Clock;
 
 /// How many processes of a network may be of the kind Number.
 const PARTS: usize = 8;
@@ -23,9 +25,9 @@ const PARTS: usize = 8;
 // Does what the words ask for, with PARTS parts of the kind Number. It is the example of one's own, and each part of it is changed through the interface
 // of all parts alone.
 fn numbering<
-    R: Files<File = File> + Eprint + Threads + Wait + Sync + Drop,
+    R: Files<File = File> + Eprint + Clock + Threads + Wait + Sync + Drop,
     P: Print + Drop,
-    Q: Print + Drop,
+    Q: Print + IsTerminal + Drop,
 >(
     alloc: Global,
     rt: &R,

@@ -15,6 +15,7 @@ mod ran;
 mod run;
 mod start;
 mod top;
+mod watch;
 
 pub use after::{print_text, verdict_status, write_outputs};
 pub use again::replay_net;
@@ -24,4 +25,5 @@ pub use live::{LiveNet, LiveWorked};
 pub use outputs::written_name;
 pub use ran::{Account, PrintedReport, Ran, report_of};
 pub use run::{Done, KeptFile, Said, Unwritten};
-pub use top::{Outcome, busy_top, needs_workers, plain_top};
+pub use top::{Outcome, busy_top, busy_top_past, needs_workers, plain_top, plain_top_past};
+pub use watch::Watch;

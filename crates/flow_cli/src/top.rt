@@ -19,8 +19,9 @@ use crate::live::LiveNet;
 use crate::over::over;
 use crate::ran::{Account, PrintedReport};
 use crate::run::{Done, Unwritten, no_journal};
+use crate::watch::{Unwatched, Watch};
 use flow_catalogue::{Std, standard_components_come_to_one_outcome};
-use flow_component::Gate;
+use flow_component::{Gate, NoGate};
 use flow_determinate::a_determinate_plan_ends_as_on_one_thread;
 use flow_journal::{
     Journal, a_file_has_one_journal_or_one_fault, a_journal_that_stops_is_no_schedule,
@@ -93,10 +94,28 @@ pub fn plain_top<F: Shelf, O: Sink, E: Sink, P: Part>(
     ensures promises { KeepsPromises (call_of words.now (offers_of own.items) (F.outside shelf.old) (F.outside shelf.new) (outputs_at (O.outside out.old) (E.outside err.old)) (outputs_at (O.outside out.new) (E.outside err.new)) (recorded_of result) result.status) }
     ensures crew { IsManned words.now result }
 {
+    plain_top_past(alloc, words, shelf, out, err, &NoGate, own)
+}
+
+/// The same; the turns of a run or a make pass a watch.
+pub fn plain_top_past<F: Shelf, O: Sink, E: Sink, W: Watch, P: Part>(
+    alloc: Global,
+    words: &[String],
+    shelf: &mut F,
+    out: &mut O,
+    err: &mut E,
+    watch: &W,
+    own: Vec<OwnKind<P>>,
+) -> Outcome
+    requires alone { AsksWorkers words.now → ⊥ }
+    requires own { AreOwnKinds (specs_of (offers_of own.items)) }
+    ensures promises { KeepsPromises (call_of words.now (offers_of own.items) (F.outside shelf.old) (F.outside shelf.new) (outputs_at (O.outside out.old) (E.outside err.old)) (outputs_at (O.outside out.new) (E.outside err.new)) (recorded_of result) result.status) }
+    ensures crew { IsManned words.now result }
+{
     let Ok((kinds, parts)) = kinds_and_parts(alloc, own) else {
         return conclude::<F, O, E, P>(alloc, shelf, out, err, Err(Stop::NoMemory), &[]);
     };
-    let done = perform_alone(alloc, words, shelf, &kinds, parts);
+    let done = perform_alone(alloc, words, shelf, watch, &kinds, parts);
     conclude(alloc, shelf, out, err, done, &kinds)
 }
 
@@ -124,18 +143,46 @@ pub fn busy_top<
     ensures promises { KeepsPromises (call_of words.now (offers_of own.items) (F.outside shelf.old) (F.outside shelf.new) (outputs_at (O.outside out.old) (E.outside err.old)) (outputs_at (O.outside out.new) (E.outside err.new)) (recorded_of result) result.status) }
     ensures crew { IsManned words.now result }
 {
+    let watch = Unwatched { gate };
+    busy_top_past(rt, alloc, words, shelf, out, err, &watch, own)
+}
+
+/// The same; the turns pass a watch.
+pub fn busy_top_past<
+    R: Threads + Wait + Sync,
+    F: Shelf,
+    O: Sink,
+    E: Sink,
+    W: Watch + Sync,
+    P: Part + Send,
+>(
+    rt: &R,
+    alloc: Global,
+    words: &[String],
+    shelf: &mut F,
+    out: &mut O,
+    err: &mut E,
+    watch: &W,
+    own: Vec<OwnKind<P>>,
+) -> Outcome
+    requires workers { AsksWorkers words.now }
+    requires own { AreOwnKinds (specs_of (offers_of own.items)) }
+    ensures promises { KeepsPromises (call_of words.now (offers_of own.items) (F.outside shelf.old) (F.outside shelf.new) (outputs_at (O.outside out.old) (E.outside err.old)) (outputs_at (O.outside out.new) (E.outside err.new)) (recorded_of result) result.status) }
+    ensures crew { IsManned words.now result }
+{
     let Ok((kinds, parts)) = kinds_and_parts(alloc, own) else {
         return conclude::<F, O, E, P>(alloc, shelf, out, err, Err(Stop::NoMemory), &[]);
     };
-    let done = perform_by_workers(rt, alloc, words, shelf, gate, &kinds, parts);
+    let done = perform_by_workers(rt, alloc, words, shelf, watch, &kinds, parts);
     conclude(alloc, shelf, out, err, done, &kinds)
 }
 
 // Does all that comes before something is written or printed; one thread makes the turns.
-fn perform_alone<'a, F: Shelf, P: Part>(
+fn perform_alone<'a, F: Shelf, W: Watch, P: Part>(
     alloc: Global,
     words: &'a [String],
     shelf: &mut F,
+    watch: &W,
     kinds: &[KindSpec],
     parts: Vec<Vec<P>>,
 ) -> Result<Done<'a, LiveNet<P>>, Stop>
@@ -145,7 +192,7 @@ fn perform_alone<'a, F: Shelf, P: Part>(
     ensures { (own : List Offer) → AreOffered own kinds.now parts.items → Performs own (F.outside shelf.old) (F.outside shelf.new) words.entry.now result }
 {
     match begin(alloc, words, shelf, kinds, parts) {
-        Ok(Begun::Running(running, net)) => match run_alone(alloc, net) {
+        Ok(Begun::Running(running, net)) => match run_alone(alloc, net, watch) {
             Ok(worked) => over(alloc, running, worked, kinds),
             Err(AllocError) => Err(Stop::NoMemory),
         },
@@ -155,12 +202,12 @@ fn perform_alone<'a, F: Shelf, P: Part>(
 }
 
 // The same; workers make the turns.
-fn perform_by_workers<'a, R: Threads + Wait + Sync, F: Shelf, G: Gate + Sync, P: Part + Send>(
+fn perform_by_workers<'a, R: Threads + Wait + Sync, F: Shelf, W: Watch + Sync, P: Part + Send>(
     rt: &R,
     alloc: Global,
     words: &'a [String],
     shelf: &mut F,
-    gate: &G,
+    watch: &W,
     kinds: &[KindSpec],
     parts: Vec<Vec<P>>,
 ) -> Result<Done<'a, LiveNet<P>>, Stop>
@@ -171,7 +218,7 @@ fn perform_by_workers<'a, R: Threads + Wait + Sync, F: Shelf, G: Gate + Sync, P:
 {
     match begin(alloc, words, shelf, kinds, parts) {
         Ok(Begun::Running(running, net)) => {
-            match run_by_workers(rt, alloc, net, running.goal.workers(), gate) {
+            match run_by_workers(rt, alloc, net, running.goal.workers(), watch) {
                 Ok(worked) => over(alloc, running, worked, kinds),
                 Err(AllocError) => Err(Stop::NoMemory),
             }

@@ -13,7 +13,7 @@ pub fn put_header(page: &mut String, line: &[u8]) -> Result<(), AllocError> {
     if let Some(slip) = header_slip(line) {
         page.push_str(slip)?;
     }
-    page.push_str("The first line that is no remark has to be: flow 1, or flow 2\n")
+    page.push_str("The first line that is no remark has to be: flow 1, flow 2 or flow 3\n")
 }
 
 // What a first line was meant for that isn't the header.
@@ -40,7 +40,7 @@ fn is_wide(line: &[u8]) -> bool {
 // A first line that nearly begins as the header does.
 fn flow_slip(rest: &[u8]) -> Option<&'static str> {
     if rest.starts_with(b"flow") {
-        return Some("Behind flow stands the version of the language alone, which is 1 or 2.\n");
+        return Some("Behind flow stands the version of the language alone, which is 1, 2 or 3.\n");
     }
     if first(rest, 4).eq_ignore_ascii_case(b"flow") {
         return Some("Upper and lower case differ.\n");

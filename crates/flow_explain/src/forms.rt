@@ -101,7 +101,9 @@ fn reserved_slip(found: &Found<'_>, pieces: &[Piece<'_>]) -> Option<&'static str
 // The slip of a line that begins with this word, in a subnet or outside of one.
 fn slip_behind(word: Reserved, inside: bool, left: &[Piece<'_>]) -> Option<&'static str> {
     match word {
-        Reserved::Flow => Some("The line flow 1, or flow 2, stands once, before all others.\n"),
+        Reserved::Flow => Some(
+            "The line flow 1, flow 2 or flow 3 stands once, before all others.\n",
+        ),
         Reserved::Subnet => Some(subnet_slip(left)),
         Reserved::End => Some(end_slip(inside)),
         Reserved::Inport | Reserved::Outport => outer_slip(inside),

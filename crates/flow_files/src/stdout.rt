@@ -5,6 +5,7 @@ use crate::again::print_again;
 use flow_text::{Edge, Fault, History, Sink};
 use std::alloc::Global;
 use std::io;
+use std::io::IsTerminal;
 use std::marker::Model;
 
 /// So many bytes are kept of what is given.
@@ -78,6 +79,12 @@ impl<R: Print + Drop> StdSink<R> {
     /// What the system answered at the last fault.
     pub fn reason(&self) -> Option<io::Error> {
         self.reason
+    }
+}
+
+impl<R: Print + IsTerminal + Drop> IsTerminal for StdSink<R> {
+    fn is_terminal(&self) -> bool {
+        self.rt.is_terminal()
     }
 }
 

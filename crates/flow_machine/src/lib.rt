@@ -16,4 +16,4 @@ pub use answers::{Case, Effect, Over, Status, Thought, Turn};
 pub use body::Body;
 pub use channel::Channel;
 pub use flow_model::{Block, Stage};
-pub use net::{Closed, Net, Parts, solo};
+pub use net::{Closed, Net, Parts, solo, solo_past};

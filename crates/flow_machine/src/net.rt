@@ -28,7 +28,7 @@ mod round;
 mod turns;
 
 pub use parts::Parts;
-pub use round::{Closed, solo};
+pub use round::{Closed, solo, solo_past};
 
 /// A network: the connections of its plan, its processes, and a channel for each connection.
 pub struct Net<K: Component> {

@@ -20,8 +20,10 @@ use flow_words::command;
 use std::alloc::{AllocError, Global};
 use std::fs::{File, Files};
 use std::io;
+use std::io::IsTerminal;
 use std::sync::Wait;
 use std::thread::Threads;
+use std::time::Clock;
 
 // What is said besides of a network file that is too long when it is filled.
 const OVERFILLED: &str = "With the texts for its words this one has more.\n";
@@ -95,9 +97,9 @@ fn net_name(alloc: Global, words: &[String]) -> Result<Option<String>, AllocErro
 /// Makes the call that the first of these words ask for, so many of them, about a network file. One of version 3 is filled with what the others give. For one of
 /// version 1 or 2 there are no texts: all words are the call's then, as they were before there was version 3.
 pub fn filled_call<
-    R: Files<File = File> + Eprint + Threads + Wait + Sync + Drop,
+    R: Files<File = File> + Eprint + Clock + Threads + Wait + Sync + Drop,
     P: Print + Drop,
-    Q: Print + Drop,
+    Q: Print + IsTerminal + Drop,
     T: Part + Send,
     S: Supply<T>,
 >(
@@ -200,9 +202,9 @@ fn overfilled<
 
 // Fills the network file with what these texts give, and makes the call on it.
 fn net_call<
-    R: Files<File = File> + Eprint + Threads + Wait + Sync + Drop,
+    R: Files<File = File> + Eprint + Clock + Threads + Wait + Sync + Drop,
     P: Print + Drop,
-    Q: Print + Drop,
+    Q: Print + IsTerminal + Drop,
     T: Part + Send,
     S: Supply<T>,
 >(
@@ -267,9 +269,9 @@ fn refused_early<
 
 // Puts the subnets of the files that the network file uses behind its text, tries the files that the call is to write, and makes it on that text.
 fn joined_call<
-    R: Files<File = File> + Eprint + Threads + Wait + Sync + Drop,
+    R: Files<File = File> + Eprint + Clock + Threads + Wait + Sync + Drop,
     P: Print + Drop,
-    Q: Print + Drop,
+    Q: Print + IsTerminal + Drop,
     T: Part + Send,
     S: Supply<T>,
 >(
@@ -350,9 +352,9 @@ fn refused<O: Sink, E: Sink>(out: &mut O, err: &mut E, refusal: &Refusal) -> Sta
 
 // Makes the call on this shelf, and explains how it ended. Of a network file of version 3 the text has lines of these files that it uses.
 fn shelf_call<
-    R: Files<File = File> + Eprint + Threads + Wait + Sync + Drop,
+    R: Files<File = File> + Eprint + Clock + Threads + Wait + Sync + Drop,
     P: Print + Drop,
-    Q: Print + Drop,
+    Q: Print + IsTerminal + Drop,
     T: Part + Send,
     S: Supply<T>,
 >(
@@ -370,7 +372,8 @@ fn shelf_call<
         return unremembered(out, err);
     };
     out.keep(alloc);
-    let Ok(outcome) = call(rt, alloc, words, &mut shelf, out, err, own) else {
+    let is_terminal = err.is_terminal();
+    let Ok(outcome) = call(rt, alloc, words, &mut shelf, out, err, is_terminal, own) else {
         return Status::NoMemory;
     };
     let printing = out.reason().or(err.reason());

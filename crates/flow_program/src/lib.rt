@@ -9,6 +9,7 @@ mod explain;
 mod filled;
 mod given;
 mod kept;
+mod meter;
 mod own;
 mod placed;
 mod top;

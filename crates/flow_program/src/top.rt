@@ -16,9 +16,11 @@ use std::alloc::{AllocError, Global};
 use std::env::Args;
 use std::fs::{File, Files};
 use std::io;
+use std::io::IsTerminal;
 use std::process::ExitCode;
 use std::sync::Wait;
 use std::thread::Threads;
+use std::time::Clock;
 
 /// How a program ends where there is no memory to begin with.
 pub fn no_memory() -> ExitCode {
@@ -27,9 +29,9 @@ pub fn no_memory() -> ExitCode {
 
 /// Does what `flow` does with these words, and ends as it does. These kinds of the caller's own stand beside the standard ones.
 pub fn program<
-    R: Files<File = File> + Eprint + Threads + Wait + Sync + Drop,
+    R: Files<File = File> + Eprint + Clock + Threads + Wait + Sync + Drop,
     P: Print + Drop,
-    Q: Print + Drop,
+    Q: Print + IsTerminal + Drop,
     T: Part + Send,
 >(
     alloc: Global,
@@ -49,9 +51,9 @@ pub fn program<
 
 /// Does the same with the kinds of this maker, which makes their parts for the network that is run.
 pub fn making_program<
-    R: Files<File = File> + Eprint + Threads + Wait + Sync + Drop,
+    R: Files<File = File> + Eprint + Clock + Threads + Wait + Sync + Drop,
     P: Print + Drop,
-    Q: Print + Drop,
+    Q: Print + IsTerminal + Drop,
     T: Part + Send,
     M: Maker<Part = T>,
 >(
@@ -70,9 +72,9 @@ pub fn making_program<
 
 // The same, wherever the kinds and the parts come from.
 fn supplied_program<
-    R: Files<File = File> + Eprint + Threads + Wait + Sync + Drop,
+    R: Files<File = File> + Eprint + Clock + Threads + Wait + Sync + Drop,
     P: Print + Drop,
-    Q: Print + Drop,
+    Q: Print + IsTerminal + Drop,
     T: Part + Send,
     S: Supply<T>,
 >(
@@ -92,9 +94,9 @@ fn supplied_program<
 
 // Does what the words ask for.
 fn words_call<
-    R: Files<File = File> + Eprint + Threads + Wait + Sync + Drop,
+    R: Files<File = File> + Eprint + Clock + Threads + Wait + Sync + Drop,
     P: Print + Drop,
-    Q: Print + Drop,
+    Q: Print + IsTerminal + Drop,
     T: Part + Send,
     S: Supply<T>,
 >(
@@ -117,9 +119,9 @@ fn words_call<
 
 // Makes a call that is about no network file, and explains how it ended.
 fn other_call<
-    R: Files<File = File> + Eprint + Threads + Wait + Sync + Drop,
+    R: Files<File = File> + Eprint + Clock + Threads + Wait + Sync + Drop,
     P: Print + Drop,
-    Q: Print + Drop,
+    Q: Print + IsTerminal + Drop,
     T: Part + Send,
     S: Supply<T>,
 >(
@@ -137,7 +139,8 @@ fn other_call<
     let Ok(own) = supply.hand_in(alloc, b"") else {
         return Status::NoMemory;
     };
-    let Ok(outcome) = call(rt, alloc, words, &mut shelf, out, err, own) else {
+    let is_terminal = err.is_terminal();
+    let Ok(outcome) = call(rt, alloc, words, &mut shelf, out, err, is_terminal, own) else {
         return Status::NoMemory;
     };
     let printing = out.reason().or(err.reason());

@@ -23,7 +23,7 @@ struct Asked {
     takes_net: bool,
 }
 
-const OPTIONS: [Asked; 14] = [
+const OPTIONS: [Asked; 15] = [
     Asked {
         name: "--check",
         value: Value::Nothing,
@@ -45,7 +45,14 @@ const OPTIONS: [Asked; 14] = [
     Asked {
         name: "--journal",
         value: Value::File,
-        beside: &["--tapes", "--workers", "--report", "--quiet", "--brief"],
+        beside: &[
+            "--tapes",
+            "--workers",
+            "--report",
+            "--quiet",
+            "--brief",
+            "--progress",
+        ],
         takes_net: true,
     },
     Asked {
@@ -72,6 +79,7 @@ const OPTIONS: [Asked; 14] = [
             "--report",
             "--quiet",
             "--brief",
+            "--progress",
             "--replay",
         ],
         takes_net: true,
@@ -88,6 +96,7 @@ const OPTIONS: [Asked; 14] = [
             "--report",
             "--quiet",
             "--brief",
+            "--progress",
             "--make",
         ],
         takes_net: true,
@@ -95,19 +104,53 @@ const OPTIONS: [Asked; 14] = [
     Asked {
         name: "--report",
         value: Value::File,
-        beside: &["--journal", "--tapes", "--workers", "--quiet", "--brief"],
+        beside: &[
+            "--journal",
+            "--tapes",
+            "--workers",
+            "--quiet",
+            "--brief",
+            "--progress",
+        ],
         takes_net: true,
     },
     Asked {
         name: "--quiet",
         value: Value::Nothing,
-        beside: &["--journal", "--tapes", "--workers", "--report", "--brief"],
+        beside: &[
+            "--journal",
+            "--tapes",
+            "--workers",
+            "--report",
+            "--brief",
+            "--progress",
+        ],
         takes_net: true,
     },
     Asked {
         name: "--brief",
         value: Value::Nothing,
-        beside: &["--journal", "--tapes", "--workers", "--report", "--quiet"],
+        beside: &[
+            "--journal",
+            "--tapes",
+            "--workers",
+            "--report",
+            "--quiet",
+            "--progress",
+        ],
+        takes_net: true,
+    },
+    Asked {
+        name: "--progress",
+        value: Value::Nothing,
+        beside: &[
+            "--journal",
+            "--tapes",
+            "--workers",
+            "--report",
+            "--quiet",
+            "--brief",
+        ],
         takes_net: true,
     },
     Asked {

@@ -16,6 +16,8 @@ mod levels;
 #[cfg(test)]
 mod loads;
 #[cfg(test)]
+mod passes;
+#[cfg(test)]
 mod replays;
 #[cfg(test)]
 mod telegram;

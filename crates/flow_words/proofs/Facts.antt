@@ -10,7 +10,7 @@ use Rattle.clap.specs.Simple.{Shape as Whole, built, filled, with_index}
 use Rattle.clap.specs.Walk.{Row, Rule, Text, arg_by_id, arg_by_index, arg_by_long, is_empty, is_multiple, most_values, reading_by, takes_several, takes_values, used, with_values, without}
 use Rattle.clap.specs.declared.parser.matches.ValueSource.TheVariants.{CommandLine}
 use Rattle.flow_words.specs.declared.argument.Argument.{Argument}
-use Rattle.flow_words.specs.declared.argument.Argument.TheVariants.{NetFile, Check, Determinate, Kinds as TheKinds, Journal, Replay, Make, Tapes, Workers, Report, Quiet, Brief, Help, Version}
+use Rattle.flow_words.specs.declared.argument.Argument.TheVariants.{NetFile, Check, Determinate, Kinds as TheKinds, Journal, Replay, Make, Tapes, Workers, Report, Quiet, Brief, Progress, Help, Version}
 use Rattle.flow_words.specs.declared.argument.Shape.{Shape}
 use Rattle.flow_words.specs.declared.argument.Shape.TheVariants.{Name, Flag, Valued}
 use Rattle.flow_words.specs.Arguments.{arguments, name_of, rule_for, shape_of}
@@ -104,6 +104,7 @@ facts Workers = record { named = refl; apart = refl; same = refl; id = refl; by_
 facts Report = record { named = refl; apart = refl; same = refl; id = refl; by_id = refl; by_long = refl; takes = refl; most = refl; defaults = refl; sound_default = refl; long = refl; joined = λ v. refl; no_end = refl; no_end_joined = λ v. refl; uses = λ v r. refl; faults = λ v r. refl }
 facts Quiet = record { named = refl; apart = refl; same = refl; id = refl; by_id = refl; by_long = refl; takes = refl; most = refl; defaults = refl; sound_default = refl; long = refl; joined = λ v. refl; no_end = refl; no_end_joined = λ v. refl; uses = λ v r. refl; faults = λ v r. refl }
 facts Brief = record { named = refl; apart = refl; same = refl; id = refl; by_id = refl; by_long = refl; takes = refl; most = refl; defaults = refl; sound_default = refl; long = refl; joined = λ v. refl; no_end = refl; no_end_joined = λ v. refl; uses = λ v r. refl; faults = λ v r. refl }
+facts Progress = record { named = refl; apart = refl; same = refl; id = refl; by_id = refl; by_long = refl; takes = refl; most = refl; defaults = refl; sound_default = refl; long = refl; joined = λ v. refl; no_end = refl; no_end_joined = λ v. refl; uses = λ v r. refl; faults = λ v r. refl }
 facts Help = record { named = refl; apart = refl; same = refl; id = refl; by_id = refl; by_long = refl; takes = refl; most = refl; defaults = refl; sound_default = refl; long = refl; joined = λ v. refl; no_end = refl; no_end_joined = λ v. refl; uses = λ v r. refl; faults = λ v r. refl }
 facts Version = record { named = refl; apart = refl; same = refl; id = refl; by_id = refl; by_long = refl; takes = refl; most = refl; defaults = refl; sound_default = refl; long = refl; joined = λ v. refl; no_end = refl; no_end_joined = λ v. refl; uses = λ v r. refl; faults = λ v r. refl }
 

@@ -20,7 +20,7 @@ use Rattle.flow_words.specs.declared.argument.Shape.{Shape}
 use Rattle.flow_words.specs.declared.argument.Shape.TheVariants.{Name, Flag, Valued}
 use Rattle.flow_words.specs.Arguments.{arguments, name_of, shape_of}
 use Rattle.flow_words.specs.Lines.{AreOnce, AreWords, EndsLine, Given, IsLine, dashed, is_flag, values_of}
-use Rattle.flow_words.specs.Words.{Asked, command_of, form_of, line_app, value_in}
+use Rattle.flow_words.specs.Words.{Asked, command_of, form_of, line_app, progress_of, tells_progress, value_in}
 use Rattle.flow_words.proofs.Facts.{built_rule, by_word, facts, is_name, is_net_file, is_valued, kept_values, only, raw_values, rules, top, value_count}
 use Rattle.flow_words.proofs.Rows.{AreBare, Free, defaults_kept, free_more, nothing_free, row_for, used_once, values_there}
 use Rattle.flow_words.proofs.Steps.{IsUse, Moves, at, behind, end_moves, held_at, name_moves, opened, option_moves, two_words, use_moves, value_moves}
@@ -271,6 +271,12 @@ asks given words line once =
     ap (λ (kinds : Kinds). if is_empty kinds then form_of (value_in (matches_of line_app words)) else None) (free_line given words line once)
     ∙ ap form_of (λ i. λ a. line_values given words line once a i)
 
+-- A line tells how far its run is where the values that it gives do.
+pub tells : (given : List Given) (words : List Text) → IsLine given words → AreOnce given → progress_of words ≡ tells_progress (values_of given)
+tells given words line once =
+    ap (λ (kinds : Kinds). if is_empty kinds then tells_progress (value_in (matches_of line_app words)) else false) (free_line given words line once)
+    ∙ ap tells_progress (λ i. λ a. line_values given words line once a i)
+
 -- What the matches of a parse ask for is what its words do.
 pub read-as : (app : App) (words : List Text) (rows : List Row) (found : Option Asked) → app ≡ line_app → (is_simple app ≡ true → rows ≡ matches_of app words)
     → (is_simple_and_free app ≡ true → fault_of app words ≡ []) → found ≡ form_of (value_in rows) → found ≡ command_of words
@@ -281,6 +287,17 @@ read-as app words rows found is matched free asked =
     let same : rows ≡ matches_of line_app words = matched simple ∙ ap (λ (a : App). matches_of a words) is in
     asked ∙ ap (λ (r : List Row). form_of (value_in r)) same
     ∙ sym (ap (λ (kinds : Kinds). if is_empty kinds then form_of (value_in (matches_of line_app words)) else None) no_fault)
+
+-- What the matches of a parse are to tell is what its words are.
+pub tells-as : (app : App) (words : List Text) (rows : List Row) (found : Bool) → app ≡ line_app → (is_simple app ≡ true → rows ≡ matches_of app words)
+    → (is_simple_and_free app ≡ true → fault_of app words ≡ []) → found ≡ tells_progress (value_in rows) → found ≡ progress_of words
+tells-as app words rows found is matched free told =
+    let simple : is_simple app ≡ true = ap is_simple is in
+    let all_free : is_simple_and_free app ≡ true = ap is_simple_and_free is in
+    let no_fault : fault_of line_app words ≡ [] = ap (λ (a : App). fault_of a words) (sym is) ∙ free all_free in
+    let same : rows ≡ matches_of line_app words = matched simple ∙ ap (λ (a : App). matches_of a words) is in
+    told ∙ ap (λ (r : List Row). tells_progress (value_in r)) same
+    ∙ sym (ap (λ (kinds : Kinds). if is_empty kinds then tells_progress (value_in (matches_of line_app words)) else false) no_fault)
 
 -- A fault is there where an error has its kind.
 some-fault : (kinds : Kinds) (k : ErrorKind) → IsAmong k kinds → is_empty kinds ≡ false
@@ -295,3 +312,12 @@ none-as app words e is has other = go (has (ap is_simple_and_free is)) where
   go (inr among) =
       let fault : is_empty (fault_of line_app words) ≡ false = ap (λ (a : App). is_empty (fault_of a words)) (sym is) ∙ some-fault (fault_of app words) (kind_of e) among in
       sym (ap (λ (b : Bool). if b then form_of (value_in (matches_of line_app words)) else None) fault)
+
+-- And they tell nothing.
+pub none-tells : (app : App) (words : List Text) (e : Error) → app ≡ line_app → (is_simple_and_free app ≡ true → HasKind (fault_of app words) e) → (kind_of e ≡ OutOfMemory → ⊥) → false ≡ progress_of words
+none-tells app words e is has other = go (has (ap is_simple_and_free is)) where
+  go : HasKind (fault_of app words) e → false ≡ progress_of words
+  go (inl memory) = absurd (other memory)
+  go (inr among) =
+      let fault : is_empty (fault_of line_app words) ≡ false = ap (λ (a : App). is_empty (fault_of a words)) (sym is) ∙ some-fault (fault_of app words) (kind_of e) among in
+      sym (ap (λ (b : Bool). if b then tells_progress (value_in (matches_of line_app words)) else false) fault)

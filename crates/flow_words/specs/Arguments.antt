@@ -5,15 +5,15 @@ use Rattle.clap.specs.Walk.{Text, Rule}
 use Rattle.clap.specs.Simple.{new_rule}
 use Rattle.clap.specs.declared.builder.action.ArgAction.TheVariants.{SetTrue}
 use Rattle.flow_words.specs.declared.argument.Argument.{Argument}
-use Rattle.flow_words.specs.declared.argument.Argument.TheVariants.{NetFile, Check, Determinate, Kinds, Journal, Replay, Make, Tapes, Workers, Report, Quiet, Brief, Help, Version}
+use Rattle.flow_words.specs.declared.argument.Argument.TheVariants.{NetFile, Check, Determinate, Kinds, Journal, Replay, Make, Tapes, Workers, Report, Quiet, Brief, Progress, Help, Version}
 use Rattle.flow_words.specs.declared.argument.Shape.{Shape}
 use Rattle.flow_words.specs.declared.argument.Shape.TheVariants.{Name, Flag, Valued}
 
 -- What may stand in a line, each at most once: the network file's name; the flags of a check, of a judge and of the kinds; the options with the name of a run's
 -- journal file, with that of a replay's, with the number of a make, with the name of the file of the tapes, with the number of workers, and with the name of the
--- file of the report; the flags of a report that is left out and of one in brief; and those of the help and of the version.
+-- file of the report; the flags of a report that is left out and of one in brief, and of a run that tells how far it is; and those of the help and of the version.
 abbrev pub arguments : List Argument
-arguments = NetFile ∷ Check ∷ Determinate ∷ Kinds ∷ Journal ∷ Replay ∷ Make ∷ Tapes ∷ Workers ∷ Report ∷ Quiet ∷ Brief ∷ Help ∷ Version ∷ []
+arguments = NetFile ∷ Check ∷ Determinate ∷ Kinds ∷ Journal ∷ Replay ∷ Make ∷ Tapes ∷ Workers ∷ Report ∷ Quiet ∷ Brief ∷ Progress ∷ Help ∷ Version ∷ []
 
 -- The name of each. No other has it.
 abbrev pub name_of : Argument → Text
@@ -29,6 +29,7 @@ name_of Workers = codes "workers"
 name_of Report = codes "report"
 name_of Quiet = codes "quiet"
 name_of Brief = codes "brief"
+name_of Progress = codes "progress"
 name_of Help = codes "help"
 name_of Version = codes "version"
 
@@ -46,6 +47,7 @@ shape_of Workers = Valued
 shape_of Report = Valued
 shape_of Quiet = Flag
 shape_of Brief = Flag
+shape_of Progress = Flag
 shape_of Help = Flag
 shape_of Version = Flag
 

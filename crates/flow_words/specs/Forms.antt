@@ -25,6 +25,7 @@ place_of Run arguments.Workers = Free
 place_of Run arguments.Report = Free
 place_of Run arguments.Quiet = Free
 place_of Run arguments.Brief = Free
+place_of Run arguments.Progress = Free
 place_of Check arguments.NetFile = Needed
 place_of Check arguments.Check = Needed
 place_of Judge arguments.NetFile = Needed

@@ -169,3 +169,11 @@ form_of values = option_and_then (λ form. asked_as form values) (find (λ form.
 -- Words in which clap finds a fault ask for nothing, and all others for what their rows do.
 abbrev pub command_of : List Text → Option Asked
 command_of words = if is_empty (fault_of line_app words) then form_of (value_in (matches_of line_app words)) else None
+
+-- A line of these values is to tell how far its run is. What it asks for is the same without.
+abbrev pub tells_progress : (Argument → Option Text) → Bool
+tells_progress values = is_some (values arguments.Progress)
+
+-- Words in which clap finds no fault are to tell how far their run is where their rows do.
+abbrev pub progress_of : List Text → Bool
+progress_of words = if is_empty (fault_of line_app words) then tells_progress (value_in (matches_of line_app words)) else false

@@ -21,6 +21,7 @@ pub enum Argument {
     Report,
     Quiet,
     Brief,
+    Progress,
     Help,
     Version,
 }
@@ -34,7 +35,7 @@ pub enum Shape {
 }
 
 /// All arguments, in the order of the usage.
-pub const ARGUMENTS: [Argument; 14] = [
+pub const ARGUMENTS: [Argument; 15] = [
     Argument::NetFile,
     Argument::Check,
     Argument::Determinate,
@@ -47,6 +48,7 @@ pub const ARGUMENTS: [Argument; 14] = [
     Argument::Report,
     Argument::Quiet,
     Argument::Brief,
+    Argument::Progress,
     Argument::Help,
     Argument::Version,
 ];
@@ -69,6 +71,7 @@ impl Argument {
             Argument::Report => "report",
             Argument::Quiet => "quiet",
             Argument::Brief => "brief",
+            Argument::Progress => "progress",
             Argument::Help => "help",
             Argument::Version => "version",
         }
@@ -85,6 +88,7 @@ impl Argument {
             | Argument::Kinds
             | Argument::Quiet
             | Argument::Brief
+            | Argument::Progress
             | Argument::Help
             | Argument::Version => Shape::Flag,
             Argument::Journal

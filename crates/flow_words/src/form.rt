@@ -50,6 +50,7 @@ impl Form {
             (Form::Run, Argument::Report) => Place::Free,
             (Form::Run, Argument::Quiet) => Place::Free,
             (Form::Run, Argument::Brief) => Place::Free,
+            (Form::Run, Argument::Progress) => Place::Free,
             (Form::Check, Argument::NetFile) => Place::Needed,
             (Form::Check, Argument::Check) => Place::Needed,
             (Form::Judge, Argument::NetFile) => Place::Needed,

@@ -10,4 +10,4 @@ mod words;
 
 pub use asked::{Command, Page, ReportCommand, RunCommand};
 pub use pages::{help_page, version_line};
-pub use words::command;
+pub use words::{command, tells_progress};

@@ -5,7 +5,7 @@ ghost use Rattle.clap.specs.Words.{app_of, found_of, rows_of};
 ghost use Rattle.flow_words.specs.Forms.{fits, forms};
 ghost use Rattle.flow_words.specs.Lines.{AreOnce, Given, IsLine, values_of};
 ghost use Rattle.flow_words.specs.Numbers.{AreSpelled, spelled_number, spelled_workers};
-ghost use Rattle.flow_words.specs.Words.{IsWithinBounds, Run, asked_as, asked_by, command_of, form_of, given_workers, is_given, line_app, make_by, report_by, report_file_in, report_in, row_named, value_by, value_in};
+ghost use Rattle.flow_words.specs.Words.{IsWithinBounds, Run, asked_as, asked_by, command_of, form_of, given_workers, is_given, line_app, make_by, progress_of, report_by, report_file_in, report_in, row_named, tells_progress, value_by, value_in};
 
 use crate::argument::{ARGUMENTS, Argument, Shape};
 use crate::asked::{Command, Page, ReportCommand, RunCommand};
@@ -34,6 +34,22 @@ pub fn command<'a>(alloc: Global, words: &'a [String]) -> Result<Option<Command<
         Err(error) => match error.kind() {
             ErrorKind::OutOfMemory => Err(AllocError),
             _ => Ok(None),
+        },
+    }
+}
+
+/// Whether the words are to tell how far their run is. `command` doesn't look at it, so that the same is asked for without. Words in which clap finds a fault
+/// tell nothing.
+pub fn tells_progress(alloc: Global, words: &[String]) -> Result<bool, AllocError>
+    ensures words { IfOk result (λ tells. tells ≡ progress_of (map string_bytes words.entry.now)) }
+    ensures lines { (given : List Given) → IsLine given (map string_bytes words.entry.now) → AreOnce given
+        → IfOk result (λ tells. tells ≡ tells_progress (values_of given)) }
+{
+    match line(alloc)?.try_get_matches_from(words) {
+        Ok(matches) => Ok(value_of(&matches, Argument::Progress).is_some()),
+        Err(error) => match error.kind() {
+            ErrorKind::OutOfMemory => Err(AllocError),
+            _ => Ok(false),
         },
     }
 }

@@ -10,7 +10,7 @@ ghost use Rattle.flow_machine.specs.Solo.{Goes, MakesTurn, SettlesNet, StarvesNe
 
 use super::Net;
 use crate::answers::{Thought, Turn};
-use flow_component::{Component, NoGate};
+use flow_component::{Component, Gate, NoGate};
 use std::alloc::Global;
 
 /// A run that is over: the network, and the processes whose thoughts found no memory.
@@ -88,7 +88,7 @@ impl<K: Component> Net<K> {
 
     /// Does the pending work of a process, and takes the room of its next turn. False: there was no memory.
     #[inline(always)]
-    fn settle(&mut self, process: u32) -> bool
+    fn settle<G: Gate>(&mut self, process: u32, gate: &G) -> bool
         requires { process < length self.old.bodies }
         ensures settles { OnTrue result (SettlesNet K.rules self.old process self.new) }
         ensures starves { OnFalse result (StarvesNet self.old process self.new) }
@@ -96,7 +96,7 @@ impl<K: Component> Net<K> {
         ensures len { length self.new.bodies ≡ length self.old.bodies }
         ensures turns { turns_made self.new ≡ turns_made self.old }
     {
-        match self.think(process, &NoGate) {
+        match self.think(process, gate) {
             Thought::Wishing => true,
             Thought::Failed(_) => true,
             Thought::NoMemory => false,
@@ -104,7 +104,7 @@ impl<K: Component> Net<K> {
     }
 
     /// Does all pending works. An error is the first process that found no memory.
-    fn settle_all(&mut self) -> Result<(), u32>
+    fn settle_all<G: Gate>(&mut self, gate: &G) -> Result<(), u32>
         ensures set { OnOk result (AllSet self.new.bodies) }
         ensures goes { OnOk result (Goes K.rules (all_settled K.rules) self.old (turns_made self.old) self.new (turns_made self.old)) }
         ensures reaches { ReachesNet K.rules self.old self.new }
@@ -113,7 +113,7 @@ impl<K: Component> Net<K> {
         ensures turns { turns_made self.new ≡ turns_made self.old }
     {
         for process in 0..self.processes() {
-            if !self.settle(process) {
+            if !self.settle(process, gate) {
                 return Err(process);
             }
         }
@@ -121,7 +121,7 @@ impl<K: Component> Net<K> {
     }
 
     /// A process takes turns until it has none.
-    fn burst(&mut self, process: u32, stamp: &mut u32) -> Result<(), u32>
+    fn burst<G: Gate>(&mut self, process: u32, stamp: &mut u32, gate: &G) -> Result<(), u32>
         requires in_range { process < length self.old.bodies }
         requires set { AllSet self.old.bodies }
         requires next { stamp.old ≡ turns_made self.old }
@@ -136,7 +136,7 @@ impl<K: Component> Net<K> {
     {
         while self.make_turn(process, *stamp) {
             *stamp += 1;
-            if !self.settle(process) {
+            if !self.settle(process, gate) {
                 return Err(process);
             }
         }
@@ -144,7 +144,7 @@ impl<K: Component> Net<K> {
     }
 
     /// A burst of each process. It answers whether a turn was made.
-    fn pass(&mut self, stamp: &mut u32) -> Result<bool, u32>
+    fn pass<G: Gate>(&mut self, stamp: &mut u32, gate: &G) -> Result<bool, u32>
         requires set { AllSet self.old.bodies }
         requires next { stamp.old ≡ turns_made self.old }
         requires few { stamp.old ≤ RUN_LIMIT }
@@ -159,21 +159,21 @@ impl<K: Component> Net<K> {
     {
         let before = *stamp;
         for process in 0..self.processes() {
-            self.burst(process, stamp)?;
+            self.burst(process, stamp, gate)?;
         }
         Ok(*stamp != before)
     }
 
     /// Passes, until one has no turn.
-    fn go_round(&mut self) -> Result<(), u32>
+    fn go_round<G: Gate>(&mut self, gate: &G) -> Result<(), u32>
         ensures set { OnOk result (AllSet self.new.bodies) }
         ensures goes { OnOk result (Goes K.rules (round_robin K.rules) self.old (turns_made self.old) self.new (turns_made self.new)) }
         ensures reaches { ReachesNet K.rules self.old self.new }
         ensures starved { IfErr result (IsFirstUnset self.new.bodies) }
     {
-        self.settle_all()?;
+        self.settle_all(gate)?;
         let mut stamp = self.turns_made();
-        while self.pass(&mut stamp)? {}
+        while self.pass(&mut stamp, gate)? {}
         Ok(())
     }
 }
@@ -188,6 +188,21 @@ pub fn solo<K: Component>(alloc: Global, net: Net<K>) -> Result<Closed<K>, Close
     ensures reaches { IfErr result (λ closed. ReachesNet K.rules net closed.net) }
     ensures stops { IfErr result (λ closed. StopsAt net closed.net closed.starved.items) }
 {
+    solo_past(alloc, net, &NoGate)
+}
+
+/// The same, past a gate before each resume of a component.
+pub fn solo_past<K: Component, G: Gate>(
+    alloc: Global,
+    net: Net<K>,
+    gate: &G,
+) -> Result<Closed<K>, Closed<K>>
+    ensures quiet { IfOk result (λ closed. Goes K.rules (round_robin K.rules) net (turns_made net) closed.net (turns_made closed.net)) }
+    ensures none { IfOk result (λ closed. closed.starved.items ≡ []) }
+    ensures ended_are_told { IfOk result (λ closed. EndedAreTold closed.net) }
+    ensures reaches { IfErr result (λ closed. ReachesNet K.rules net closed.net) }
+    ensures stops { IfErr result (λ closed. StopsAt net closed.net closed.starved.items) }
+{
     let mut net = net;
     let Ok(mut starved) = Vec::with_capacity(alloc, 1) else {
         return Err(Closed {
@@ -195,7 +210,7 @@ pub fn solo<K: Component>(alloc: Global, net: Net<K>) -> Result<Closed<K>, Close
             starved: Vec::new(alloc),
         });
     };
-    match net.go_round() {
+    match net.go_round(gate) {
         Ok(()) => Ok(Closed { net, starved }),
         Err(process) => {
             starved.push(process).unwrap();

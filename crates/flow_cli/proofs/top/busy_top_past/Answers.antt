@@ -2,7 +2,7 @@ use Rattle.std.proofs.Common.{List, length, inl, refl, sym, ap, subst, ◌∙◌
 use Rattle.flow_plan.specs.declared.kind.KindSpec.{KindSpec}
 use Rattle.flow_load.specs.Offers.{AreOffered, offers_of}
 use Rattle.flow_cli.proofs.Beginnings.{as-many}
-use Rattle.flow_cli.proofs.top.busy_top.Goals as goal
+use Rattle.flow_cli.proofs.top.busy_top_past.Goals as goal
 
 pub returns-in_default-clause-promises : goal.returns-in_default-clause-promises
 returns-in_default-clause-promises g c =

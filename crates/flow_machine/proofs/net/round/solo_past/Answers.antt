@@ -2,7 +2,7 @@ use Rattle.std.proofs.Common.{◌≡◌, ℕ, List, [], ◌∷◌, ◌++◌, ◌
 use Rattle.flow_machine.specs.Solo.{StopsAt}
 use Rattle.flow_machine.proofs.Reaching.{reach-none}
 use Rattle.flow_machine.proofs.Told.{all-told}
-use Rattle.flow_machine.proofs.net.round.solo.Goals as goal
+use Rattle.flow_machine.proofs.net.round.solo_past.Goals as goal
 
 pub returns-in-Err-clause-reaches : goal.returns-in-Err-clause-reaches
 returns-in-Err-clause-reaches g c = c.in-Err.ensures.reaches
