@@ -3,9 +3,9 @@ ghost use Rattle.std.specs.Prelude.{◌≤◌, length};
 
 use crate::call::{call, handed_in};
 use crate::explain::{Fault, explain, explain_failed, file_of, foresee};
-use crate::given::{Refusal, refusal_of, texts_page};
 use crate::own::{Known, Supply};
-use crate::used::{Joined, Origin, UsedStop, with_used};
+use crate::texts::texts_page;
+use flow_called::{Joined, Origin, Refusal, UsedStop, refusal_of, with_used};
 use flow_cli::{Status, print_text};
 use flow_explain::expect_kept;
 use flow_files::{FileShelf, StdSink};

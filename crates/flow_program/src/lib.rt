@@ -6,11 +6,9 @@
 mod call;
 mod explain;
 mod filled;
-mod given;
 mod own;
-mod placed;
+mod texts;
 mod top;
-mod used;
 mod words;
 
 pub use top::{making_program, no_memory, program};
