@@ -16,10 +16,13 @@ _flow_net() {
     done
 }
 
-# The words of the network of a file, as the built program lists them: the script `flow` would prove it first.
+# The words of the network of a file, as the built program `flow` lists them: the script would prove it first.
 _flow_texts() {
     local program
     program=$(type -P -- "${COMP_WORDS[0]}") && [ -f "$1" ] || return
+    # For `draw` that is the one beside it.
+    if [ "${program##*/}" = draw ]; then program=${program%draw}flow; fi
+    [ -x "$program" ] || return
     if [ "$(head -c 2 -- "$program")" = '#!' ]; then
         program=$(dirname -- "$(readlink -f -- "$program")")/crates/flow/out/flow
     fi
@@ -29,7 +32,10 @@ _flow_texts() {
 _flow_words() {
     local word=${COMP_WORDS[COMP_CWORD]} before=${COMP_WORDS[COMP_CWORD - 1]} options texts=
     case ${COMP_WORDS[0]##*/} in
-    draw) options='--dot --fold --journal' ;;
+    draw)
+        options='--dot --fold --help --journal'
+        texts=$(_flow_texts "$(_flow_net)")
+        ;;
     *)
         options='--brief --check --determinate --help --journal --kinds --make --progress --quiet --replay --report --tapes --texts --version --workers'
         texts=$(_flow_texts "$(_flow_net)")

@@ -1,5 +1,6 @@
 pub mod Leading
 pub mod Cycles
+pub mod Helping
 pub mod Matched
 pub mod Plain
 pub mod Reading

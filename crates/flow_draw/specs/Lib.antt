@@ -1,4 +1,5 @@
 pub mod Words
+pub mod Help
 pub mod States
 pub mod Causes
 pub mod Loads

@@ -4,6 +4,7 @@
 #![tactic(auto)]
 
 mod again;
+mod help;
 mod remarks;
 mod scene;
 mod status;
@@ -11,8 +12,9 @@ mod top;
 mod words;
 
 pub use again::remarks_after;
+pub use help::asks_help;
 pub use remarks::remarks_of;
 pub use scene::{Scene, scene_of};
 pub use status::DrawStatus;
-pub use top::draw_top;
+pub use top::{draw_top, print_help};
 pub use words::{DrawCommand, command};

@@ -1,10 +1,13 @@
 //! The top call.
 ghost use Rattle.std.specs.Prelude.{◌≡◌, IfOk};
+ghost use Rattle.flow_words.specs.Pages.{text_of};
 ghost use Rattle.flow_offer.specs.Kinds.{AreOwnKinds, table_with};
 ghost use Rattle.flow_drawing.specs.Folding.{drawing_as};
 ghost use Rattle.flow_draw.specs.Complete.{IsComplete};
 ghost use Rattle.flow_draw.specs.Draws.{Ends, Makes, Prints, call_of, picture_of};
+ghost use Rattle.flow_draw.specs.Help.{help_lines};
 
+use crate::help::help_page;
 use crate::scene::{Scene, scene_of};
 use crate::status::DrawStatus;
 use crate::words::command;
@@ -41,7 +44,14 @@ pub fn draw_top<F: Shelf, O: Sink>(
     }
 }
 
-// Prints a drawing.
+/// Prints the help, and nothing else.
+pub fn print_help<O: Sink>(out: &mut O) -> DrawStatus
+    ensures { Prints (O.outside out.old) (O.outside out.new) (text_of help_lines) result }
+{
+    print(out, help_page())
+}
+
+// Prints a text.
 fn print<O: Sink>(out: &mut O, text: &[u8]) -> DrawStatus
     ensures { Prints (O.outside out.old) (O.outside out.new) text.now result }
 {

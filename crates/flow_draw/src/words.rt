@@ -44,8 +44,8 @@ pub fn command<'a>(
     }
 }
 
-// The arguments of a command line, for clap. With no version given, clap adds no version flag.
-fn line<'a>(alloc: Global) -> Result<clap::Command<'a>, AllocError>
+/// The arguments of a command line, for clap. With no version given, clap adds no version flag.
+pub fn line<'a>(alloc: Global) -> Result<clap::Command<'a>, AllocError>
     ensures { IfOk result (λ line. app_of line ≡ line_app) }
 {
     let line = clap::Command::new(alloc, "draw")
@@ -129,8 +129,8 @@ fn form_by(dot: bool) -> Form
     if dot { Form::Dot } else { Form::Mermaid }
 }
 
-// Whether the words gave this flag, which clap otherwise sets by default.
-fn has_flag(matches: &ArgMatches<'_>, flag: &str) -> bool
+/// Whether the words gave this flag, which clap otherwise sets by default.
+pub fn has_flag(matches: &ArgMatches<'_>, flag: &str) -> bool
     ensures { result ≡ is_given (row_named flag.now (rows_of (found_of matches.now))) }
 {
     match matches.value_source(flag) {

@@ -1,9 +1,8 @@
 //! What a program does, from its words to its end.
 ghost use Rattle.flow_offer.specs.Kinds.{AreOwnKinds};
 
-use crate::explain::explain;
-use flow_draw::draw_top;
-use flow_files::{FileShelf, StdSink, words_of};
+use crate::call::Call;
+use flow_files::{StdSink, words_of};
 use flow_load::Status;
 use flow_plan::KindSpec;
 use std::alloc::Global;
@@ -22,7 +21,7 @@ pub fn drawing<R: Files<File = File> + Eprint + Drop, P: Print + Drop>(
     alloc: Global,
     rt: &R,
     args: io::Result<Args>,
-    mut out: StdSink<P>,
+    out: StdSink<P>,
     own: &[KindSpec],
 ) -> ExitCode
     requires { AreOwnKinds own.now }
@@ -30,9 +29,11 @@ pub fn drawing<R: Files<File = File> + Eprint + Drop, P: Print + Drop>(
     let Ok(words) = words_of(alloc, args) else {
         return no_memory();
     };
-    let mut shelf = FileShelf::new(alloc, rt);
-    let drawn = draw_top(alloc, &words, &mut shelf, &mut out, own);
-    let reason = out.reason().or(shelf.reason());
-    explain(alloc, rt, &words, &drawn, reason, own);
-    ExitCode::from(drawn.status().code())
+    let mut call = Call {
+        alloc,
+        rt,
+        out,
+        own,
+    };
+    ExitCode::from(call.make(&words).code())
 }

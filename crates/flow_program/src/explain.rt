@@ -1,9 +1,8 @@
 //! What the program says besides on the standard error: what a person needs to find a fault. No contract speaks of it,
 //! and it never changes how the program ends.
 use crate::own::Known;
-use crate::placed::placed;
-use crate::used::Origin;
 use crate::words::put_wrong;
+use flow_called::{Origin, placed};
 use flow_cli::Status;
 use flow_explain::{
     Use, net_of, put_failed, put_folders, put_large, put_named, put_open, put_refusal,

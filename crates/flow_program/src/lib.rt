@@ -7,13 +7,11 @@ mod call;
 mod early;
 mod explain;
 mod filled;
-mod given;
 mod kept;
 mod meter;
 mod own;
-mod placed;
+mod texts;
 mod top;
-mod used;
 mod words;
 
 pub use top::{making_program, no_memory, program};

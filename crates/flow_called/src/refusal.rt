@@ -1,22 +1,17 @@
-//! Texts for the words of a network: why they are refused, and which words there are.
-use crate::own::Known;
-use crate::used::{UsedStop, with_used};
-use flow_explain::{Uses, nearest, put_all, put_word};
-use flow_fill::{FileWord, FillFault, FillStop, Given, fill, words_of};
-use flow_items::Text;
-use flow_limits::STATEMENT_LIMIT;
-use flow_load::Stop;
-use flow_text::{Shelf, lines, put_decimal};
+//! Texts for the words of a network that are refused, and why.
+use flow_explain::{nearest, put_word};
+use flow_fill::{FillFault, Given, words_of};
+use flow_text::{lines, put_decimal};
 use std::alloc::{AllocError, Global};
 
-/// What is said of a call whose texts are refused: on the standard output, and on the standard error.
+/// What is said of a call whose texts are refused: a line that tells why, and a page that helps to find the fault.
 #[derive(Drop)]
 pub struct Refusal {
     pub line: Vec<u8>,
     pub page: String,
 }
 
-// A line of the standard output.
+// The line of a refusal.
 fn line(alloc: Global, name: &[u8], reason: &[u8]) -> Result<Vec<u8>, AllocError> {
     let mut out = Vec::from_slice(alloc, b"word refused: ")?;
     out.extend_from_slice(name)?;
@@ -121,89 +116,4 @@ fn put_names(page: &mut String, names: &[&[u8]]) -> Result<(), AllocError> {
         put_word(page, name)?;
     }
     page.push_str(".\n")
-}
-
-/// The words of the network file of this name with these bytes, one in a line, each with the text beside it and with what its text may be.
-pub fn texts_page<F: Shelf>(
-    alloc: Global,
-    shelf: &mut F,
-    name: &str,
-    net: &[u8],
-    known: &Known,
-) -> Result<Vec<u8>, AllocError> {
-    let words = words_of(alloc, net)?;
-    let text = untexted(alloc, shelf, name, net, &words)?;
-    let uses = Uses::of(alloc, &text, &known.kinds)?;
-    let mut page = String::new(alloc);
-    for word in &words {
-        put_text(&mut page, word)?;
-        uses.put(&mut page, word.line)?;
-        page.push('\n')?;
-    }
-    Vec::from_slice(alloc, page.as_bytes())
-}
-
-// The text that a network file comes to with empty texts for its words, and with the files that it uses where these can be read. Of one with more words than a
-// network has statements it is none.
-fn untexted<F: Shelf>(
-    alloc: Global,
-    shelf: &mut F,
-    name: &str,
-    net: &[u8],
-    words: &[FileWord],
-) -> Result<Vec<u8>, AllocError> {
-    if words.len() > STATEMENT_LIMIT {
-        return Ok(Vec::new(alloc));
-    }
-    let given = empty_texts(alloc, words)?;
-    let text = match fill(alloc, net, &given) {
-        Ok(text) => text,
-        Err(FillStop::Fault(_)) => return Ok(Vec::new(alloc)),
-        Err(FillStop::TooLong) => return Ok(Vec::new(alloc)),
-        Err(FillStop::NoMemory) => return Err(AllocError),
-    };
-    let alone = Vec::from_slice(alloc, &text)?;
-    match with_used(alloc, shelf, name, net, text) {
-        Ok(joined) => Ok(joined.text),
-        Err(UsedStop::Stop(Stop::NoMemory)) => Err(AllocError),
-        Err(_) => Ok(alone),
-    }
-}
-
-// An empty text for each word, however often the file has it.
-fn empty_texts(alloc: Global, words: &[FileWord]) -> Result<Vec<Given>, AllocError> {
-    let mut given: Vec<Given> = Vec::new(alloc);
-    for word in words {
-        let name = word.name.as_slice();
-        if !given.iter().any(|one| one.word.as_slice() == name) {
-            given.push(Given {
-                word: Text::from_slice(alloc, name)?,
-                text: Text::new(alloc),
-            })?;
-        }
-    }
-    Ok(given)
-}
-
-fn put_text(page: &mut String, word: &FileWord) -> Result<(), AllocError> {
-    put_all(page, word.name.as_slice())?;
-    if let Some(beside) = &word.beside {
-        page.push_str(" '")?;
-        put_quoted(page, beside.as_slice())?;
-        page.push('\'')?;
-    }
-    Ok(())
-}
-
-// A text with each quote doubled, as a terminal can show it.
-fn put_quoted(page: &mut String, text: &[u8]) -> Result<(), AllocError> {
-    let mut is_first = true;
-    for piece in text.split(|byte| *byte == b'\'') {
-        if !is_first {
-            page.push_str("''")?;
-        }
-        is_first = false;
-        put_all(page, piece)?;
-    }
-    Ok(())
 }
