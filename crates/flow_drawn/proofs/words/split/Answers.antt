@@ -1,4 +1,4 @@
-use Rattle.std.proofs.Common.{◌≡◌, ◌-◌, ◌<◌, ◌≤◌, true, false, length, map, sym, ◌∙◌, arith, string_bytes}
+use Rattle.std.proofs.Common.{◌-◌, ◌<◌, ◌≤◌, true, false, length, map, sym, ◌∙◌, arith, string_bytes}
 use Rattle.flow_drawn.proofs.Ends.{asked_so, gives_so, step, step_on}
 use Rattle.flow_drawn.proofs.words.split.Goals as goal
 
