@@ -31,6 +31,6 @@ pub record ChangesNoName (w : Work) : Type 0 where
   pub files : w.after.files ≡ w.before.files
   pub created : w.after.created ≡ w.before.created
 
--- A run that finished left the files that its network means; nothing else leaves any.
+-- A run that finished left the files that its network means, where all its processes are of standard kinds; nothing else leaves any.
 abbrev pub LeavesMeaning : Work → Type 0
 LeavesMeaning w = ((asked : AskedRun) × Asks w.words (run_of asked) × IsMeant w asked) ⊎ ChangesNoName w

@@ -14,11 +14,11 @@ pub record KeepsPromises (c : Call) : Type 0 where
   pub over : IsOver c.status → ComesToEnd c
   -- A run of a determinate plan ends as on one thread, with its status, report and files, whatever its workers did.
   pub one_outcome : IsOver c.status → ComesToEndAsAlone c
-  -- A run that finished left the files that its network means.
+  -- A run that finished left the files that its network means, where all its processes are of standard kinds.
   pub meaning : IsFinished c.status → LeavesMeaning c.work
-  -- A run that finished left the book of each of its batch updates of sorted files.
+  -- A run that finished left the book of each of its batch updates of sorted files, where all its processes are of standard kinds.
   pub books : IsFinished c.status → LeavesBooks c.work
-  -- Wherever the run stood, a Collate that had ended had sent the collation of what its elements got.
+  -- Wherever a run of standard processes stood, a Collate that had ended had sent the collation of what its elements got.
   pub collated : CollatesEach c.work
   -- Each status has the cause of what the call came to.
   pub cause : IsCaused c

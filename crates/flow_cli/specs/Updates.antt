@@ -31,6 +31,6 @@ pub record HasBooks (w : Work) (asked : AskedRun) : Type 0 where
   pub books : own_processes (specs_of w.own) meant.whole.plan ≡ [] → (standard : List Std) × (meant.whole.run.components ≡ others standard)
       × WritesBooks meant.whole.plan standard (bytes_in meant.whole.last) × WritesUnsortedBooks meant.whole.plan standard (bytes_in meant.whole.last)
 
--- A run that finished left what its network means, and so the books of its batch updates; nothing else leaves any.
+-- A run that finished left what its network means, where all its processes are of standard kinds, and so the books of its batch updates; nothing else leaves any.
 abbrev pub LeavesBooks : Work → Type 0
 LeavesBooks w = ((asked : AskedRun) × Asks w.words (run_of asked) × HasBooks w asked) ⊎ ChangesNoName w

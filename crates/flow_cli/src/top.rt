@@ -77,7 +77,7 @@ pub fn needs_workers(alloc: Global, words: &[String]) -> Result<bool, AllocError
     }
 }
 
-/// Does what the program does, and waits for nobody: runs the network that the words name on one thread, or the one that is made from a number,
+/// Does what the program does without workers: runs the network that the words name on one thread, or the one that is made from a number,
 /// or makes the turns of a journal again in it, and prints the report; or checks the network file and prints its canonical spelling, or judges it
 /// and prints whether its plan is determinate; or prints a page; or prints why it stopped. The error output gets nothing but a report in brief whose whole goes to a file. The kinds of the caller's own stand beside
 /// the standard ones.

@@ -1,7 +1,8 @@
 //! Who watches the turns of a run.
 use flow_component::{Gate, NoGate};
 
-/// A gate that is told when the turns of a run are over: nobody passes it any more then, and nothing is written or printed yet.
+/// A gate that is told when the turns of a run are over. The program does so once nobody passes it any more, and before anything of the run is written or printed; no clause
+/// says when.
 pub trait Watch: Gate {
     /// The turns are over. It has no effect on what comes of them.
     fn end_turns(&self);

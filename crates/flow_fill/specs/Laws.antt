@@ -43,7 +43,7 @@ OtherLinesStay = (place : Place) (given : List Given) (line : List ℕ) → (is_
 abbrev pub LinesKeepTheirPlaces : Type 0
 LinesKeepTheirPlaces = (given : List Given) (lines : List (List ℕ)) → length (filled_lines Head given lines) ≡ length lines
 
--- In a filled file of version 3 whose words all have texts no line is of version 3: were all of its lines those of a main part, it would have no word; and it is no file of version 3.
+-- A filled file of version 3 whose words all have texts has no word outside of its subnets, and is no file of version 3.
 abbrev pub AFilledFileHasNoWords : Type 0
 AFilledFileHasNoWords = (given : List Given) (lines : List (List ℕ)) → is_third lines ≡ true → missing given (words_in lines) ≡ None
     → (words_from 1 Main (filled_lines Head given lines) ≡ []) × (is_third (filled_lines Head given lines) ≡ false)

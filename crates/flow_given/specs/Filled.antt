@@ -57,7 +57,7 @@ outside_of s = record {
 abbrev pub gives_text : Filled → Name → Bool
 gives_text s name = bytes_eq name s.name && not s.given
 
--- An open of this name gave the text once: the first one of the name gave it, from its beginning on, and any other gave what stands below.
+-- An open of this name gave the text once: the first one of the name gave it, from its beginning on, and any other opened the file of its name below.
 pub record GivesOnce (old new : Filled) (name : Name) : Type 0 where
   pub reads : new.reading ≡ gives_text old name
   pub from_the_first : gives_text old name ≡ true → new.at ≡ 0

@@ -11,7 +11,7 @@ use std::alloc::Global;
 use std::marker::Model;
 
 /// A shelf over another one, on which the network file holds its filled text for whoever opens it first. Then it is a file as any other, which is opened
-/// below: so an input of the same name is what it would be without this shelf.
+/// below: so an input may have the same name.
 #[derive(Drop)]
 pub struct FilledShelf<F: Shelf + Drop> {
     below: F,
@@ -125,7 +125,7 @@ impl<F: Shelf + Drop> Sink for FilledShelf<F> {
 impl<F: Shelf + Drop> Shelf for FilledShelf<F> {
     fn open(&mut self, name: &str) -> Result<(), ShelfStop>
         ensures opens { Opens (outside_of self.old) (outside_of self.new) result name.now }
-        // The text is given once, and what stands below otherwise.
+        // The first open of the name gives the text, and any other opens the file below.
         ensures once { IfOk result (λ _. GivesOnce self.old self.new name.now) }
     {
         self.opened.begin(name)?;

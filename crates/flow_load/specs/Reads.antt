@@ -1,4 +1,4 @@
--- What a call reads before a network runs, or is made to run again: the network file, a journal's file, the files of the network's readers.
+-- What a call reads before a network runs, or is made to run again: the network file, the files of a journal and of tapes, the files of the network's readers.
 use Rattle.std.specs.Prelude.{◌≡◌, ◌⊎◌, ◌≤◌, ◌+◌, ℕ, max, List, [], ◌∷◌, ◌++◌, length, map, Some, None, String, string_bytes}
 use Rattle.std.specs.declared.alloc.Global.{Global}
 use Rattle.std.specs.declared.option.Option.{Option}
@@ -87,7 +87,7 @@ IsBetween words told name between =
     ((asked : AskedRun) × Asks words (run_of asked) × (between ≡ []))
     ⊎ ((kept : Name) × (tapes : Option Name) × Asks words (Replay name kept tapes) × ReadsBehind told kept tapes between)
 
--- The network file was read, then these files, then those of the readers, in the order of the processes; each once, to its end, and nothing else. This is the
+-- The network file was read, then these files, then that of each reader, in the order of the processes; each to its end, and nothing else. This is the
 -- network's plan, and each of its processes was given these bytes: a reader what its file gave.
 pub record IsReady (own : List KindSpec) (old new : Outside) (name : Name) (between : List Filled) (plan : Network) (given : List (List ℕ)) : Type 0 where
   pub net : List ℕ

@@ -20,7 +20,7 @@ code_of Running = 11
 code_of TapesRefused = 12
 
 -- A call came to its end: a run did, finished, finished with packets left, in a deadlock, or failed; or a replay did, which may leave a network that can go on; or a
--- check found nothing, a judge answered, or the page of kinds was printed.
+-- check found nothing, a judge answered, or a page was printed.
 abbrev pub IsOver : Status → Type 0
 IsOver Finished = ⊤
 IsOver FinishedLeft = ⊤

@@ -95,7 +95,7 @@ fn net_name(alloc: Global, words: &[String]) -> Result<Option<String>, AllocErro
 }
 
 /// Makes the call that the first of these words ask for, so many of them, about a network file. One of version 3 is filled with what the others give. For one of
-/// version 1 or 2 there are no texts: all words are the call's then, as they were before there was version 3.
+/// version 1 or 2 there are no texts: all words are the call's then.
 pub fn filled_call<
     R: Files<File = File> + Eprint + Clock + Threads + Wait + Sync + Drop,
     P: Print + Drop,
@@ -225,7 +225,7 @@ fn net_call<
     match fill(alloc, &net, &given) {
         Ok(text) => joined_call(alloc, rt, out, err, words, shelf, name, &net, text, supply),
         Err(FillStop::Fault(fault)) => match refusal_of(alloc, &net, &given, fault) {
-            Ok(refusal) => refused(out, err, &refusal),
+            Ok(refusal) => refused(rt, out, err, &refusal),
             Err(AllocError) => unremembered(out, err),
         },
         Err(FillStop::TooLong) => {
@@ -339,15 +339,18 @@ fn explain_used<R: Files<File = File> + Eprint + Drop>(
     );
 }
 
-// Says why texts are refused.
-fn refused<O: Sink, E: Sink>(out: &mut O, err: &mut E, refusal: &Refusal) -> Status {
-    print_text(
-        out,
-        err,
-        &refusal.line,
-        refusal.page.as_bytes(),
-        Status::Words,
-    )
+// Says why texts are refused, and then, if the standard error takes it, what helps to find the fault.
+fn refused<R: Eprint, O: Sink, E: Sink>(
+    rt: &R,
+    out: &mut O,
+    err: &mut E,
+    refusal: &Refusal,
+) -> Status {
+    let status = print_text(out, err, &refusal.line, b"", Status::Words);
+    if status == Status::Words {
+        let _ = rt.eprint(refusal.page.as_str());
+    }
+    status
 }
 
 // Makes the call on this shelf, and explains how it ended. Of a network file of version 3 the text has lines of these files that it uses.
