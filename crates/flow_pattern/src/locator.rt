@@ -15,7 +15,7 @@ use std::marker::Model;
 /// A pattern, compiled, with what its searches have built so far. It is seen as the pattern's text.
 ///
 /// As a `Finder`, with a second automaton, which reads back from the end of a match to its start.
-pub(crate) struct Locator {
+pub struct Locator {
     text: Vec<u8>,
     dfa: Dfa,
     forward: Forward,
@@ -55,7 +55,7 @@ impl Drop for Locator {
 
 impl Locator {
     /// Compiles a pattern. One whose program has more than some 10 MiB finds no memory.
-    pub(crate) fn new(alloc: Global, pattern: &[u8]) -> Result<Locator, AllocError>
+    pub fn new(alloc: Global, pattern: &[u8]) -> Result<Locator, AllocError>
         requires pattern { IsPattern pattern.now }
         ensures { IfOk result (λ locator. locator ≡ pattern.now) }
     {
@@ -74,7 +74,7 @@ impl Locator {
     }
 
     /// The span of the leftmost match that starts at `start` or after it. Takes memory where an automaton first gives up.
-    pub(crate) fn find(
+    pub fn find(
         &mut self,
         alloc: Global,
         text: &[u8],
@@ -118,7 +118,7 @@ impl Locator {
     }
 
     /// The span of the match after the one that ended at `after - 1`, or of the first match where `after` is 0.
-    pub(crate) fn next(
+    pub fn next(
         &mut self,
         alloc: Global,
         text: &[u8],
