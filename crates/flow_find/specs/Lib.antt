@@ -1,0 +1,4 @@
+pub mod Pieces
+pub mod Find
+pub mod Split
+pub mod PiecesLaws
