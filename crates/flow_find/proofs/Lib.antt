@@ -1,1 +1,4 @@
-pub mod PiecesStream
+pub mod Made
+pub mod FindStream
+pub mod SplitStream
+pub mod RewriteStream

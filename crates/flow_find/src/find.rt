@@ -1,61 +1,76 @@
-//! What sends the matches of a pattern.
+//! What sends what a template makes of the matches of a pattern.
 
 ghost use Rattle.std.specs.Prelude.{◌≡◌, IfOk};
 ghost use Rattle.flow_pattern.specs.Pattern.{IsPattern};
+ghost use Rattle.flow_pattern.specs.Template.{IsTemplate, whole_match};
 
+use flow_limits::TEXT_LIMIT;
 use flow_map::{Made, Maps, Told};
 use flow_packet::Kind;
-use flow_pattern::Locator;
+use flow_pattern::{Filler, Rewritten};
 use std::alloc::{AllocError, Global};
 use std::marker::Model;
 
-/// Replaces each Normal packet by the matches of a pattern in its text.
+/// Replaces each Normal packet by what a template makes of the matches of a pattern in its text.
 // What searches lies in a box: it is large, and a component is moved at each turn.
 #[derive(Drop)]
 pub struct Find {
     alloc: Global,
-    locator: Box<Locator>,
+    filler: Box<Filler>,
 }
 
 impl Model for Find {
-    ghost use Rattle.std.specs.Prelude.{ℕ, List};
+    ghost use Rattle.flow_pattern.specs.Pattern.{Replacement};
 
-    ghost Value = { List ℕ };
+    ghost Value = { Replacement };
 
-    ghost view = { λ f. f.locator.value };
+    ghost view = { λ f. f.filler.value };
 }
 
 impl Find {
-    /// What sends the matches of this pattern.
+    /// What sends the matches of this pattern themselves.
     pub fn new(alloc: Global, pattern: &[u8]) -> Result<Find, AllocError>
         requires pattern { IsPattern pattern.now }
-        ensures { IfOk result (λ f. f ≡ pattern.now) }
+        ensures { IfOk result (λ f. f ≡ record { pattern = pattern.now; with = whole_match }) }
     {
-        let locator = Locator::new(alloc, pattern)?;
-        let locator = Box::new(alloc, locator)?;
-        Ok(Find { alloc, locator })
+        let filler = Filler::of_whole(alloc, pattern)?;
+        let filler = Box::new(alloc, filler)?;
+        Ok(Find { alloc, filler })
+    }
+
+    /// What sends what this template makes of the matches of this pattern.
+    pub fn filling(alloc: Global, pattern: &[u8], with: &[u8]) -> Result<Find, AllocError>
+        requires pattern { IsPattern pattern.now }
+        requires template { IsTemplate pattern.now with.now }
+        ensures { IfOk result (λ f. f ≡ record { pattern = pattern.now; with = with.now }) }
+    {
+        let filler = Filler::new(alloc, pattern, with)?;
+        let filler = Box::new(alloc, filler)?;
+        Ok(Find { alloc, filler })
     }
 }
 
 impl Maps for Find {
-    ghost use Rattle.flow_find.specs.Find.{find_mapping};
-    ghost use Rattle.flow_find.specs.Pieces.{found_from};
-    ghost use Rattle.flow_find.specs.PiecesLaws.{find_laws, find_becomes};
+    ghost use Rattle.flow_find.specs.Find.{find_mapping, find_becoming};
+    ghost use Rattle.flow_find.specs.FindLaws.{find_laws, find_becomes};
 
     ghost mapping = { find_mapping };
 
-    ghost becoming = { found_from };
+    ghost becoming = { find_becoming };
 
     fn second(&self) -> Option<bool> {
         None
     }
 
     fn next(&mut self, text: &[u8], place: usize) -> Result<Told, AllocError> {
-        let Some((start, end)) = self.locator.next(self.alloc, text, place)? else {
+        let Some((made, end)) = self.filler.next(self.alloc, text, place, TEXT_LIMIT)? else {
             return Ok(Told::Over);
         };
-        let kind = Kind::Normal;
-        Ok(Told::More(Made::Piece { kind, start, end }, end + 1))
+        match made {
+            Rewritten::New(new) => Ok(Told::More(Made::Text(new), end + 1)),
+            Rewritten::TooLong(count) => Ok(Told::TooLong(count)),
+            Rewritten::Same => unreachable!(),
+        }
     }
 
     fn pass(&mut self, _kind: Kind, _text: &[u8]) {}

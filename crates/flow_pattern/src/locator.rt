@@ -2,7 +2,7 @@
 
 ghost use Rattle.std.specs.Prelude.{◌≡◌, ◌+◌, ◌-◌, ◌<◌, ◌≤◌, false, length, option_map, IfOk, IfSome};
 ghost use Rattle.regex.specs.Patterns.{find, span};
-ghost use Rattle.regex.specs.Search.{next_match, LiesWithin};
+ghost use Rattle.regex.specs.Search.{next_match, LiesWithin, SpansGroups};
 ghost use Rattle.flow_pattern.specs.Pattern.{IsPattern, expression};
 
 use crate::finder::{Means, means_of};
@@ -115,6 +115,21 @@ impl Locator {
             return Ok(None);
         }
         self.steps.find(alloc, &self.dfa, text, start)
+    }
+
+    /// What the groups span in the leftmost match that starts at `start` or after it, as cells: from the first group on two
+    /// for each, the places of its beginning and its end plus one, or 0 where it took no part.
+    pub(crate) fn groups(
+        &mut self,
+        alloc: Global,
+        text: &[u8],
+        start: usize,
+    ) -> Result<Vec<usize>, AllocError>
+        requires within { start ≤ length text.now }
+        ensures same { self.new ≡ self.old }
+        ensures spans { IfOk result (λ cells. IfSome (find (expression self.old) text.now start) (λ m. SpansGroups false text.now m (span m) cells.items)) }
+    {
+        self.steps.groups(alloc, &self.dfa, text, start)
     }
 
     /// The span of the match after the one that ended at `after - 1`, or of the first match where `after` is 0.
