@@ -1,8 +1,13 @@
 //! What sends what a template makes of the matches of a pattern.
 
-ghost use Rattle.std.specs.Prelude.{◌≡◌, IfOk};
+ghost use Rattle.std.specs.Prelude.{◌≡◌, ℕ, List, IfOk};
+ghost use Rattle.flow_limits.specs.declared.TheConstants.{TEXT_LIMIT};
 ghost use Rattle.flow_pattern.specs.Pattern.{IsPattern};
+ghost use Rattle.flow_pattern.specs.Rewriting.{Tells as IsTold};
 ghost use Rattle.flow_pattern.specs.Template.{IsTemplate, whole_match};
+ghost use Rattle.flow_map.specs.Mapping.{More};
+ghost use Rattle.flow_map.specs.Telling.{Tells};
+ghost use Rattle.flow_find.specs.Pieces.{text_product};
 
 use flow_limits::TEXT_LIMIT;
 use flow_map::{Made, Maps, Told};
@@ -25,6 +30,18 @@ impl Model for Find {
     ghost Value = { Replacement };
 
     ghost view = { λ f. f.filler.value };
+}
+
+// What is told of what a template makes of a match, before what comes from this place on.
+fn more(made: Rewritten, place: usize) -> Told
+    ensures { (text whole : List ℕ) → IsTold TEXT_LIMIT whole made → Tells text result (More (text_product whole) place) }
+{
+    match made {
+        Rewritten::New(new) => Told::More(Made::Text(new), place),
+        Rewritten::TooLong(count) => Told::TooLong(count),
+        // That is told of a text in which nothing matches, and not of a match.
+        Rewritten::Same => Told::Itself,
+    }
 }
 
 impl Find {
@@ -66,11 +83,7 @@ impl Maps for Find {
         let Some((made, end)) = self.filler.next(self.alloc, text, place, TEXT_LIMIT)? else {
             return Ok(Told::Over);
         };
-        match made {
-            Rewritten::New(new) => Ok(Told::More(Made::Text(new), end + 1)),
-            Rewritten::TooLong(count) => Ok(Told::TooLong(count)),
-            Rewritten::Same => unreachable!(),
-        }
+        Ok(more(made, end + 1))
     }
 
     fn pass(&mut self, _kind: Kind, _text: &[u8]) {}

@@ -1,8 +1,13 @@
 //! What replaces the matches of a pattern by what a template makes of each.
 
-ghost use Rattle.std.specs.Prelude.{◌≡◌, IfOk};
-ghost use Rattle.flow_pattern.specs.Pattern.{IsPattern};
+ghost use Rattle.std.specs.Prelude.{◌≡◌, ℕ, List, IfOk};
+ghost use Rattle.flow_limits.specs.declared.TheConstants.{TEXT_LIMIT};
+ghost use Rattle.flow_pattern.specs.Pattern.{IsPattern, Replacement};
+ghost use Rattle.flow_pattern.specs.Rewriting.{IsRefilled};
 ghost use Rattle.flow_pattern.specs.Template.{IsTemplate};
+ghost use Rattle.flow_map.specs.Plain.{once_next};
+ghost use Rattle.flow_map.specs.Telling.{Tells};
+ghost use Rattle.flow_find.specs.Rewrite.{rewritten_text};
 
 use flow_limits::TEXT_LIMIT;
 use flow_map::{Made, Maps, Told};
@@ -27,6 +32,17 @@ impl Model for Rewrite {
     ghost Value = { Rewriting };
 
     ghost view = { λ r. record { by = r.filler.value; rest = r.rest } };
+}
+
+// What is told of a text by what came of it.
+fn last(written: Rewritten) -> Told
+    ensures { (by : Replacement) (text : List ℕ) → IsRefilled by text TEXT_LIMIT written → Tells text result (once_next (rewritten_text by text)) }
+{
+    match written {
+        Rewritten::New(new) => Told::Last(Made::Text(new)),
+        Rewritten::TooLong(count) => Told::TooLong(count),
+        Rewritten::Same => Told::Itself,
+    }
 }
 
 impl Rewrite {
@@ -64,11 +80,8 @@ impl Maps for Rewrite {
     }
 
     fn next(&mut self, text: &[u8], _place: usize) -> Result<Told, AllocError> {
-        match self.filler.rewritten(self.alloc, text, TEXT_LIMIT)? {
-            Rewritten::New(new) => Ok(Told::Last(Made::Text(new))),
-            Rewritten::TooLong(count) => Ok(Told::TooLong(count)),
-            Rewritten::Same => Ok(Told::Itself),
-        }
+        let written = self.filler.rewritten(self.alloc, text, TEXT_LIMIT)?;
+        Ok(last(written))
     }
 
     fn pass(&mut self, _kind: Kind, _text: &[u8]) {}

@@ -1,7 +1,6 @@
 //! What splits texts at the matches of a pattern.
 
-ghost use Rattle.std.specs.Prelude.{◌≡◌, ◌+◌, ◌≤◌, ℕ, List, length, IfOk, IfSome};
-ghost use Rattle.flow_limits.specs.declared.TheConstants.{TEXT_LIMIT};
+ghost use Rattle.std.specs.Prelude.{◌≡◌, ◌≤◌, ℕ, List, IfOk, IfSome};
 ghost use Rattle.flow_pattern.specs.Pattern.{IsPattern};
 ghost use Rattle.flow_map.specs.Mapping.{Next};
 ghost use Rattle.flow_map.specs.Telling.{IsMadeOf, Tells, product_of};
@@ -43,7 +42,7 @@ pub(crate) struct Cut {
 // A bracket without a text.
 fn bracket(kind: Kind) -> Made
     ensures made { (text : List ℕ) → IsMadeOf text result }
-    ensures bracket { (text : List ℕ) → product_of text result ≡ bracket kind }
+    ensures product { (text : List ℕ) → product_of text result ≡ bracket kind }
 {
     Made::Piece {
         kind,
@@ -67,9 +66,10 @@ fn piece(cut: Cut) -> Made
 fn plainly(cut: Cut) -> Told
     ensures { (text : List ℕ) (next : Next) → IsCut text cut next → Tells text result next }
 {
+    let made = piece(cut);
     match cut.next {
-        Some(place) => Told::More(piece(cut), place),
-        None => Told::Last(piece(cut)),
+        Some(place) => Told::More(made, place),
+        None => Told::Last(made),
     }
 }
 
@@ -78,9 +78,10 @@ fn within_brackets(cut: Cut, text: &[u8]) -> Told
     requires { IfSome cut.next (λ place. place ≤ end_place text.now) }
     ensures { (next : Next) → IsCut text.now cut next → Tells text.now result (inside text.now next) }
 {
+    let made = piece(cut);
     match cut.next {
-        Some(place) => Told::More(piece(cut), place + 1),
-        None => Told::More(piece(cut), text.len() + 3),
+        Some(place) => Told::More(made, place + 1),
+        None => Told::More(made, text.len() + 3),
     }
 }
 

@@ -74,15 +74,15 @@ fn group(
 // Writes what a part makes of a match.
 fn put_part(
     written: &mut NewText,
-    part: Part,
+    part: &Part,
     text: &[u8],
     whole: (usize, usize),
     cells: &[usize],
 ) -> Result<(), AllocError>
     requires lies { LiesWithin 0 (length text.now) whole }
-    ensures { OnOk result ((most : ℕ) (before : List ℕ) → IsNewText most before written.old → IsNewText most (before ++ part_text (λ n. bytes_of text.now (group_span false text.now whole cells.now n)) part) written.new) }
+    ensures { OnOk result ((most : ℕ) (before : List ℕ) → IsNewText most before written.old → IsNewText most (before ++ part_text (λ n. bytes_of text.now (group_span false text.now whole cells.now n)) part.now) written.new) }
 {
-    match part {
+    match *part {
         Part::Byte(byte) => written.put(&[byte]),
         Part::Group(number) => match group(text, whole, cells, number) {
             Some((from, end)) => written.put(&text[from..end]),
@@ -103,16 +103,16 @@ fn put_parts(
     ensures { OnOk result ((most : ℕ) (before : List ℕ) → IsNewText most before written.old → IsNewText most (before ++ parts_text (λ n. bytes_of text.now (group_span false text.now whole cells.now n)) parts.now) written.new) }
 {
     'parts: for index in 0..parts.len() {
-        put_part(written, parts[index], text, whole, cells)?;
+        put_part(written, &parts[index], text, whole, cells)?;
     }
     Ok(())
 }
 
 // Whether a part calls a group other than the whole match.
-fn calls_group(part: Part) -> bool
-    ensures { result ≡ false → (held other : ℕ → List ℕ) → held 0 ≡ other 0 → part_text held part ≡ part_text other part }
+fn calls_group(part: &Part) -> bool
+    ensures { result ≡ false → (held other : ℕ → List ℕ) → held 0 ≡ other 0 → part_text held part.now ≡ part_text other part.now }
 {
-    match part {
+    match *part {
         Part::Byte(_) => false,
         Part::Group(number) => number > 0,
     }
@@ -123,7 +123,7 @@ fn call_groups(parts: &[Part]) -> bool
     ensures { result ≡ false → (held other : ℕ → List ℕ) → held 0 ≡ other 0 → parts_text held parts.now ≡ parts_text other parts.now }
 {
     'parts: for index in 0..parts.len() {
-        if calls_group(parts[index]) {
+        if calls_group(&parts[index]) {
             return true;
         }
     }
@@ -229,7 +229,8 @@ impl Filler {
         requires pattern { IsPattern pattern.now }
         ensures { IfOk result (λ f. f ≡ record { pattern = pattern.now; with = whole_match }) }
     {
-        match template_parts(alloc, pattern, b"$0")? {
+        let read = template_parts(alloc, pattern, b"$0")?;
+        match read {
             Ok(parts) => Filler::of_parts(alloc, pattern, b"$0", parts),
             Err(_) => unreachable!(),
         }

@@ -11,7 +11,7 @@ parts-preserved c held other same =
     more held ∙ ap₂ (λ (x y : List ℕ). x ++ y) (c.parts.invariant held other same) (c.calls_group.ensures c.if-calls_group.false held other same) ∙ sym (more other)
 
 pub returns : goal.returns
-returns c no held other same =
+returns c still held other same =
     let parts = c.args.parts.now in
     let all = take_all c.parts.index parts (omega (arith, c.parts-test.false)) in
     ap (parts_text held) (sym all) ∙ c.parts.invariant held other same ∙ ap (parts_text other) all
