@@ -102,8 +102,8 @@ fn put_parts(
     requires lies { LiesWithin 0 (length text.now) whole }
     ensures { OnOk result ((most : ℕ) (before : List ℕ) → IsNewText most before written.old → IsNewText most (before ++ parts_text (λ n. bytes_of text.now (group_span false text.now whole cells.now n)) parts.now) written.new) }
 {
-    'parts: for index in 0..parts.len() {
-        put_part(written, &parts[index], text, whole, cells)?;
+    for part in parts {
+        put_part(written, part, text, whole, cells)?;
     }
     Ok(())
 }
@@ -122,8 +122,8 @@ fn calls_group(part: &Part) -> bool
 fn call_groups(parts: &[Part]) -> bool
     ensures { result ≡ false → (held other : ℕ → List ℕ) → held 0 ≡ other 0 → parts_text held parts.now ≡ parts_text other parts.now }
 {
-    'parts: for index in 0..parts.len() {
-        if calls_group(&parts[index]) {
+    for part in parts {
+        if calls_group(part) {
             return true;
         }
     }

@@ -5,7 +5,7 @@ use Rattle.flow_pattern.specs.Rewriting.{IsNewText}
 use Rattle.flow_pattern.specs.Template.{parts_text}
 use Rattle.flow_pattern.proofs.filler.put_parts.Given as goal
 
-abbrev pub invariant-parts : goal.invariant-parts
-invariant-parts l =
+abbrev pub invariant-loop-part : goal.invariant-loop-part
+invariant-loop-part l =
     (most : ℕ) (before : List ℕ) → IsNewText most before l.fn.written
-    → IsNewText most (before ++ parts_text (λ n. bytes_of l.text (group_span false l.text l.whole l.cells n)) (take l.index l.parts)) l.written
+    → IsNewText most (before ++ parts_text (λ n. bytes_of l.text (group_span false l.text l.whole l.cells n)) (take l.part-index l.parts)) l.written
