@@ -1,7 +1,7 @@
 -- What is told of what a template makes, in the words of what comes next of a text.
 use Rattle.flow_limits.specs.declared.TheConstants.{TEXT_LIMIT}
-use Rattle.std.proofs.Common.{◌≡◌, ℕ, suc, ◌+◌, ◌-◌, ◌<◌, ◌≤◌, Bool, true, false, List, Vec, length, Some, None, option_map, if◌then◌else◌, nat_lt, refl, sym, subst, ap, ◌∙◌, arith, lt-ltb, le-ltb}
-use Rattle.std.proofs.lemmas.Bool.{cond-true, cond-false}
+use Rattle.std.proofs.Common.{◌≡◌, ℕ, suc, ◌+◌, ◌-◌, ◌<◌, ◌≤◌, Bool, true, false, List, Vec, length, Some, None, option_map, if◌then◌else◌, nat_lt, refl, sym, subst, ap, ◌∙◌, arith, lt-ltb}
+use Rattle.std.proofs.lemmas.Bool.{cond-true}
 use Rattle.std.specs.declared.alloc.Global.{Global}
 use Rattle.regex.specs.Patterns.{span}
 use Rattle.regex.specs.Search.{next_match, LiesWithin}
@@ -25,9 +25,9 @@ use Rattle.flow_find.specs.Find.{sends_match, find_next}
 use Rattle.flow_find.specs.Rewrite.{rewritten_text}
 
 -- What is told of the next match is what comes next.
-pub find_tells : (by : Replacement) (text : List ℕ) (place : ℕ) (came : Rewritten) (end : ℕ) (said : Told) → IsNextFilled by text place TEXT_LIMIT (Some (came, end))
-    → ((whole : List ℕ) → IsTold TEXT_LIMIT whole came → Tells text said (More (text_product whole) (end + 1))) → Tells text said (find_next by text place)
-find_tells by text place came end said next tells =
+pub find_tells : (by : Replacement) (text : List ℕ) (place : ℕ) (new : Rewritten) (end : ℕ) (said : Told) → IsNextFilled by text place TEXT_LIMIT (Some (new, end))
+    → ((whole : List ℕ) → IsTold TEXT_LIMIT whole new → Tells text said (More (text_product whole) (end + 1))) → Tells text said (find_next by text place)
+find_tells by text place new end said next tells =
     let match = next.0 in
     subst (Tells text said) (ap (λ n. More (text_product (filled by text match)) (n + 1)) next.2.1 ∙ sym (ap (sends_match by text) next.1)) (tells (filled by text match) next.2.0)
 
@@ -92,8 +92,3 @@ module _ (pattern text : List ℕ) (place : ℕ) where
   pub closes : 0 < place → end_place text < place - 1 → bracketed_next pattern text place ≡ Last (bracket Close)
   closes later past =
       ap (bracketed_next pattern text) (behind later) ∙ cond-true (nat_lt (end_place text) (place - 1)) (Last (bracket Close)) (inside text (piece_next pattern text (place - 1))) (lt-ltb (end_place text) (place - 1) past)
-
-  pub goes_inside : 0 < place → place - 1 ≤ end_place text → bracketed_next pattern text place ≡ inside text (piece_next pattern text (place - 1))
-  goes_inside later before =
-      ap (bracketed_next pattern text) (behind later)
-      ∙ cond-false (nat_lt (end_place text) (place - 1)) (Last (bracket Close)) (inside text (piece_next pattern text (place - 1))) (le-ltb (end_place text) (place - 1) before)
