@@ -1,7 +1,7 @@
 -- What a Find makes of its stream.
-use Rattle.std.proofs.Common.{◌≡◌, ℕ, List, [], ◌∷◌, ◌++◌, map, refl, ap, ◌∙◌, append-nil}
+use Rattle.std.proofs.Common.{◌≡◌, List, [], ◌∷◌, ◌++◌, map, refl, ap, ◌∙◌, append-nil}
 use Rattle.std.specs.List.{flat_map}
-use Rattle.regex.specs.Patterns.{Match, span}
+use Rattle.regex.specs.Patterns.{Match}
 use Rattle.regex.specs.Templates.{written_after, name_at, group_called, number_in}
 use Rattle.regex.proofs.SearchLemmas.{matches_after_bytes}
 use Rattle.flow_packet.specs.declared.packet.Kind.{Kind}

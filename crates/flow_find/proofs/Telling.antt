@@ -1,6 +1,6 @@
 -- What is told of what a template makes, in the words of what comes next of a text.
 use Rattle.flow_limits.specs.declared.TheConstants.{TEXT_LIMIT}
-use Rattle.std.proofs.Common.{◌≡◌, ℕ, suc, ◌+◌, ◌-◌, ◌<◌, ◌≤◌, Bool, true, false, List, Vec, length, Some, None, option_map, if◌then◌else◌, nat_lt, refl, sym, subst, ap, ◌∙◌, arith, lt-ltb}
+use Rattle.std.proofs.Common.{◌≡◌, ℕ, suc, ◌+◌, ◌-◌, ◌<◌, ◌≤◌, Bool, true, false, List, Vec, length, Some, None, option_map, if◌then◌else◌, nat_lt, sym, subst, ap, ◌∙◌, arith, lt-ltb}
 use Rattle.std.proofs.lemmas.Bool.{cond-true}
 use Rattle.std.specs.declared.alloc.Global.{Global}
 use Rattle.regex.specs.Patterns.{span}

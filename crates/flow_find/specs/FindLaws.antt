@@ -1,5 +1,5 @@
 -- That a Find goes on within a text, and what becomes of it so.
-use Rattle.std.proofs.Common.{◌≡◌, ℕ, ◌+◌, ◌≤◌, false, List, map, Option, Some, None, refl, ap, arith}
+use Rattle.std.proofs.Common.{◌≡◌, ℕ, false, List, map, Option, Some, None, refl, ap, arith}
 use Rattle.regex.specs.Patterns.{Match}
 use Rattle.regex.specs.Search.{next_match}
 use Rattle.regex.proofs.SearchLemmas.{next_within, matches_after_none, matches_after_some}

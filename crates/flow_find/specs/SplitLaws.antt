@@ -1,12 +1,12 @@
 -- That a Split goes on within a text, and what becomes of it so.
-use Rattle.std.proofs.Common.{◌≡◌, ℕ, zero, suc, ◌+◌, ◌-◌, ◌≤◌, Bool, true, false, List, [], ◌∷◌, ◌++◌, map, length, nat_lt, if◌then◌else◌, Option, Some, None, option_map, refl, sym, ap, ◌∙◌, arith, lt-ltb, le-ltb, ltb-false}
+use Rattle.std.proofs.Common.{◌≡◌, ℕ, zero, suc, ◌+◌, ◌-◌, ◌≤◌, Bool, true, false, List, [], ◌∷◌, ◌++◌, map, length, nat_lt, if◌then◌else◌, Option, Some, None, option_map, refl, sym, ap, ◌∙◌, arith, lt-ltb, le-ltb}
 use Rattle.std.proofs.lemmas.Bool.{cond-true, cond-false}
 use Rattle.regex.specs.Patterns.{Match, span}
 use Rattle.regex.specs.Search.{next_match, matches_after, gaps}
 use Rattle.regex.proofs.SearchLemmas.{next_within, matches_after_none, matches_after_some}
 use Rattle.flow_packet.specs.declared.packet.Kind.TheVariants.{Open, Close}
 use Rattle.flow_pattern.specs.Pattern.{expression}
-use Rattle.flow_map.specs.Mapping.{Product, IsWithin, IsMapping, Next, Last, More}
+use Rattle.flow_map.specs.Mapping.{Product, IsWithin, IsMapping, Last}
 use Rattle.flow_map.specs.Becoming.{with_next, IsBecoming}
 use Rattle.flow_map.specs.PlainLaws.{plain_laws}
 use Rattle.flow_find.specs.Pieces.{piece, text_product, end_place, only_made}
