@@ -50,6 +50,7 @@ rejects_as own Close packet = []
 -- What a packet becomes at the first output, and at the second.
 abbrev pub rewrites : Rewriting → Tree → List Tree
 rewrites own packet = rewrites_as own (kind_of packet) packet
+
 abbrev pub rejects : Rewriting → Tree → List Tree
 rejects own packet = rejects_as own (kind_of packet) packet
 

@@ -13,10 +13,12 @@ use std::test::Fail;
 fn bytes_of(alloc: Global, text: &[u8], made: Made) -> Result<Vec<u8>, AllocError> {
     match made {
         Made::Piece {
-            kind: Kind::Open, ..
+            kind: Kind::Open,
+            ..
         } => Vec::from_slice(alloc, b"("),
         Made::Piece {
-            kind: Kind::Close, ..
+            kind: Kind::Close,
+            ..
         } => Vec::from_slice(alloc, b")"),
         Made::Piece { start, end, .. } => match text.get(start..end) {
             Some(piece) => Vec::from_slice(alloc, piece),
@@ -162,9 +164,21 @@ fn a_find_has_each_match(rt: HostRuntime) -> Result<(), Fail> {
 fn a_template_is_filled_in(rt: HostRuntime) -> Result<(), Fail> {
     let alloc = rt.alloc();
     let pairs = b"([a-z]+)=([0-9]*)";
-    check(&rt, found(alloc, pairs, b"$2:$1", b"a=1 b= c=33"), b"1:a|:b|33:c|;")?;
-    check(&rt, found(alloc, b"(?<k>[a-z]+)=", b"${k}$$", b"ab=cd="), b"ab$|cd$|;")?;
-    check(&rt, found(alloc, b"(a)|(b)", b"<$1$2>", b"ab"), b"<a>|<b>|;")?;
+    check(
+        &rt,
+        found(alloc, pairs, b"$2:$1", b"a=1 b= c=33"),
+        b"1:a|:b|33:c|;",
+    )?;
+    check(
+        &rt,
+        found(alloc, b"(?<k>[a-z]+)=", b"${k}$$", b"ab=cd="),
+        b"ab$|cd$|;",
+    )?;
+    check(
+        &rt,
+        found(alloc, b"(a)|(b)", b"<$1$2>", b"ab"),
+        b"<a>|<b>|;",
+    )?;
     check(&rt, found(alloc, b"a", b"b", b"aa"), b"b|b|;")
 }
 

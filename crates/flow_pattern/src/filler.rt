@@ -256,7 +256,14 @@ impl Filler {
         };
         let mut written = NewText::new(alloc, most);
         let parts = self.parts.as_slice();
-        fill(&mut self.locator, parts, alloc, text, (from, end), &mut written)?;
+        fill(
+            &mut self.locator,
+            parts,
+            alloc,
+            text,
+            (from, end),
+            &mut written,
+        )?;
         Ok(Some((written.told(), end)))
     }
 

@@ -12,7 +12,7 @@ returns-clause-filled c =
     let parts = c.args.parts.now in
     on_ok _ _
     (λ put m there its most before is.
-        subst (λ (x : List ℕ). IsNewText most (before ++ x) c.put_parts.new.written)
-        (ap₂ (λ (s : ℕ × ℕ) (x : List ℕ). parts_text (λ n. bytes_of text (group_span false text s x n)) parts) (sym its) c.as_slice.ensures.value ∙ c.in_ok-cells.ensures.written m there)
-        (put most before is))
+    subst (λ (x : List ℕ). IsNewText most (before ++ x) c.put_parts.new.written)
+    (ap₂ (λ (s : ℕ × ℕ) (x : List ℕ). parts_text (λ n. bytes_of text (group_span false text s x n)) parts) (sym its) c.as_slice.ensures.value ∙ c.in_ok-cells.ensures.written m there)
+    (put most before is))
     c.put_parts.result c.put_parts.ensures

@@ -13,5 +13,5 @@ returns-then-place-text-clause-told c =
     let text = c.args.text.now in (
       c.bracket-then-place-text.ensures.made text,
       closes c.args.self.now.pattern text c.args.place (omega (arith, c.if-place-eq0.false)) (omega (arith, c.if-place-text.true))
-      ∙ ap Last (sym (c.bracket-then-place-text.ensures.product text)),
+          ∙ ap Last (sym (c.bracket-then-place-text.ensures.product text)),
     )

@@ -13,4 +13,4 @@ returns-clause-spans c =
     let serves = c.self.invariant.3 in
     IfOk-weaker _ (λ cells. IfSome (find (expression c.args.self.now) text start) (λ m. SpansGroups false text m (span m) cells.items))
     (λ cells told. subst (λ (t : List ℕ). IfSome (find (expression t) text start) (λ m. SpansGroups false text m (span m) cells.items)) c.self.view_is
-        (groups_so serves.program c.self.inside.text.items text serves.same (λ k. (c.type_inv.text k).fits) start cells.items c.self.inside.dfa serves.is_its told)) c.groups.result c.groups.ensures.cells
+    (groups_so serves.program c.self.inside.text.items text serves.same (λ k. (c.type_inv.text k).fits) start cells.items c.self.inside.dfa serves.is_its told)) c.groups.result c.groups.ensures.cells
