@@ -1,5 +1,5 @@
 -- How two numbers compare, by their sizes.
-use Rattle.std.proofs.Common.{◌≡◌, ℕ, zero, suc, ◌+◌, ◌-◌, ◌*◌, ◌^◌, ◌<◌, ◌≤◌, refl, sym, subst, ap, ◌∙◌, arith}
+use Rattle.std.proofs.Common.{◌≡◌, ℕ, suc, ◌-◌, ◌*◌, ◌^◌, ◌<◌, ◌≤◌, refl, sym, ap, ◌∙◌, arith}
 use Rattle.std.specs.Prelude.{ℤ, pos, negsuc, neg_ℤ, ◌*ℤ◌, ◌<ℤ◌, ◌≤ℤ◌, unsigned_abs}
 use Rattle.std.specs.declared.cmp.Ordering.{Ordering}
 use Rattle.std.proofs.lemmas.Int.{ints}
@@ -7,8 +7,6 @@ use Rattle.std.proofs.Math.Nat.{mul-lt-mul_of_pos_right}
 use Rattle.std.specs.declared.cmp.Ordering.TheVariants.{Less, Equal, Greater}
 use Rattle.std.specs.Ordering.{nat_cmp, int_cmp, ordering_reverse, MatchOrdering}
 use Rattle.std.specs.Cmp.{nat_cmp_total, nat_cmp_is, int_cmp_is, ranked}
-use Rattle.flow_decimal.specs.declared.decimal.Decimal.{Decimal}
-use Rattle.flow_decimal.specs.Values.{decimal_cmp}
 use Rattle.flow_decimal.specs.Order.{ten_pos, some-times}
 use Rattle.flow_decimal.proofs.Scaling.{zeros-more}
 

@@ -1,7 +1,6 @@
 -- What the steps of reading a number come to.
-use Rattle.std.proofs.Common.{◌≡◌, ℕ, zero, suc, ◌+◌, ◌*◌, ◌^◌, ◌<◌, ◌≤◌, Bool, true, false, List, [], ◌∷◌, ◌++◌, length, take, drop, Option, Some, None, refl, sym, subst, ap, ◌∙◌, arith, nat_lt, true≢false, cond}
-use Rattle.std.specs.Prelude.{◌&&◌, ◌||◌, ◌==◌, not, ℤ, Result, Ok, Err, FitsSigned, if◌then◌else◌}
-use Rattle.std.specs.Int.{w128}
+use Rattle.std.proofs.Common.{◌≡◌, ℕ, suc, ◌+◌, ◌^◌, ◌<◌, ◌≤◌, Bool, true, false, List, [], ◌∷◌, ◌++◌, length, take, drop, Some, None, refl, sym, ap, ◌∙◌, arith, nat_lt, cond}
+use Rattle.std.specs.Prelude.{◌&&◌, ◌||◌, not, Result, Ok, Err, if◌then◌else◌}
 use Rattle.std.specs.List.{position, position_or_len, list_any}
 use Rattle.std.specs.Str.Parse.{digits_value, starts_with_minus, without_leading_sign}
 use Rattle.std.proofs.lemmas.Bool.Decides.{nat_tests}
@@ -13,7 +12,7 @@ use Rattle.flow_decimal.specs.declared.decimal.NumberStop.TheVariants.{NoNumber,
 use Rattle.flow_decimal.specs.declared.reading.Unsigned.{Unsigned}
 use Rattle.flow_decimal.specs.Numbers.{is_point, is_numeral, is_unsigned, front, back, size_in, with_sign, fits, reading}
 use Rattle.flow_decimal.specs.Unsigned.{unsigned_reading}
-use Rattle.flow_decimal.proofs.Fitting.{below-test, test-below, above-test, test-above, fits-test, fits-not, large-not}
+use Rattle.flow_decimal.proofs.Fitting.{below-test, above-test, test-above}
 
 -- The point
 

@@ -1,8 +1,7 @@
 -- Powers of ten, and numbers with more zeros behind them.
-use Rattle.std.proofs.Common.{◌≡◌, ℕ, zero, suc, ◌+◌, ◌-◌, ◌*◌, ◌^◌, ◌<◌, ◌≤◌, refl, sym, ap, ◌∙◌, arith}
+use Rattle.std.proofs.Common.{◌≡◌, ℕ, ◌-◌, ◌*◌, ◌^◌, ◌<◌, ◌≤◌, sym, ap, ◌∙◌, arith}
 use Rattle.std.proofs.Math.Nat.{mul_assoc, mul_comm, pow-le-pow_right, le-mul_of_pos_right}
 use Rattle.std.proofs.lemmas.Nat.{pow-add}
-use Rattle.flow_decimal.specs.Order.{ten_pos}
 
 -- a power beyond the 38th has more than 128 bits
 pub power-large : (n : ℕ) → 38 < n → ¬ (10 ^ n < 2 ^ 128)

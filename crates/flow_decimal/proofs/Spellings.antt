@@ -1,11 +1,11 @@
 -- The spelling of a number is read as that number.
-use Rattle.std.proofs.Common.{◌≡◌, ℕ, zero, suc, ◌+◌, ◌-◌, ◌*◌, ◌^◌, ◌<◌, ◌≤◌, Bool, true, false, List, [], ◌∷◌, ◌++◌, length, get_or, take, drop, refl, sym, subst, ap, ◌∙◌, arith, nat_lt, cond, length-append}
-use Rattle.std.specs.Prelude.{◌≢◌, ◌==◌, ◌&&◌, ◌||◌, not, replicate, ℤ, pos, negsuc, unsigned_abs, Result, Ok, Err, if◌then◌else◌}
+use Rattle.std.proofs.Common.{◌≡◌, ℕ, zero, suc, ◌+◌, ◌-◌, ◌^◌, ◌<◌, Bool, true, false, List, [], ◌∷◌, ◌++◌, length, get_or, take, drop, refl, sym, subst, ap, ◌∙◌, arith, cond, length-append}
+use Rattle.std.specs.Prelude.{◌≢◌, ◌==◌, ◌&&◌, ◌||◌, not, replicate, ℤ, pos, negsuc, Ok, Err, if◌then◌else◌}
 use Rattle.std.specs.Char.{digit_value}
-use Rattle.std.specs.Int.{is_negative, IsInRange}
+use Rattle.std.specs.Int.{is_negative}
 use Rattle.std.specs.Fmt.{decimal}
 use Rattle.std.specs.List.{position_or_len, list_any}
-use Rattle.std.specs.Str.Parse.{AllDigits, IsNumeral, digits_value, starts_with_minus, without_leading_plus, without_leading_sign}
+use Rattle.std.specs.Str.Parse.{AllDigits, digits_value, starts_with_minus, without_leading_plus, without_leading_sign}
 use Rattle.std.proofs.lemmas.Bool.{false_from_ne_true}
 use Rattle.std.proofs.lemmas.Bool.Decides.{nat_tests}
 use Rattle.std.proofs.lemmas.Fmt.{decimal_is_IsNumeral_wide}
@@ -13,13 +13,11 @@ use Rattle.std.proofs.lemmas.List.{take_all, append-nil, take-append-drop, lengt
 use Rattle.std.proofs.lemmas.Str.Parse.{digit_from_value, without_leading_plus_none}
 use Rattle.std.proofs.Math.ListN.{drop_of_length-le, get_or-append}
 use Rattle.std.proofs.Math.Seq.{take-append_seam, drop-append-add, length-take-le}
-use Rattle.flow_decimal.specs.declared.decimal.Decimal.{Decimal}
-use Rattle.flow_decimal.specs.declared.decimal.NumberStop.{NumberStop}
 use Rattle.flow_decimal.specs.declared.decimal.NumberStop.TheVariants.{TooLarge}
 use Rattle.flow_decimal.specs.Numbers.{is_point, is_numeral, is_unsigned, front, back, size_in, with_sign, fits, reading}
 use Rattle.flow_decimal.specs.Spelling.{digits_of, with_point, spelled}
 use Rattle.flow_decimal.specs.Laws.{SpellingReadsBack}
-use Rattle.flow_decimal.proofs.Fitting.{below-test, test-below, above-test}
+use Rattle.flow_decimal.proofs.Fitting.{test-below, above-test}
 use Rattle.flow_decimal.proofs.Numerals.{numeral-from, first-digit}
 use Rattle.flow_decimal.proofs.Readings.{by-sign, signed_as}
 

@@ -1,6 +1,6 @@
 -- Bounds: a comparison, and the number that is compared with. (The signs are the usual ones; that blanks may stand behind a sign is this
 -- project's own.)
-use Rattle.std.specs.Prelude.{ℕ, ◌==◌, Bool, not, ◌&&◌, ◌||◌, List, length, drop, slice_index, Option, Some, None, Result, Ok, Err, if◌then◌else◌}
+use Rattle.std.specs.Prelude.{ℕ, ◌==◌, Bool, not, ◌&&◌, ◌||◌, List, drop, slice_index, Option, Some, None, Result, Ok, Err, if◌then◌else◌}
 use Rattle.std.specs.declared.cmp.Ordering.{Ordering}
 use Rattle.std.specs.List.{position_or_len}
 use Rattle.std.specs.Ordering.{is_gt, is_ge, is_eq, is_ne, is_lt, is_le}

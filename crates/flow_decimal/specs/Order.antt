@@ -1,11 +1,11 @@
 -- The order of decimal numbers is total.
-use Rattle.std.proofs.Common.{◌≡◌, ℕ, zero, suc, ◌+◌, ◌*◌, ◌^◌, ◌<◌, ◌≤◌, refl, sym, subst, ap, ◌∙◌, arith}
+use Rattle.std.proofs.Common.{◌≡◌, ℕ, zero, suc, ◌*◌, ◌^◌, ◌<◌, ◌≤◌, refl, sym, ap, ◌∙◌, arith}
 use Rattle.std.specs.Prelude.{ℤ, pos, negsuc, neg_ℤ, ◌*ℤ◌, ◌<ℤ◌}
 use Rattle.std.proofs.Math.Nat.{mul_assoc, mul_comm, mul-lt-mul_of_pos_right, le-mul_of_pos_right, one-le-pow}
 use Rattle.std.proofs.lemmas.Int.{ints}
 use Rattle.std.specs.declared.cmp.Ordering.{Ordering}
 use Rattle.std.specs.declared.cmp.Ordering.TheVariants.{Less, Equal, Greater}
-use Rattle.std.specs.Ordering.{int_cmp, MatchOrdering, eq_by_cmp, as_partial_cmp, ordering_reverse}
+use Rattle.std.specs.Ordering.{int_cmp, MatchOrdering, eq_by_cmp, as_partial_cmp}
 use Rattle.std.specs.Cmp.{IsTotalOrder, IsPartialOrder, IsEquivalence, IsPartialEquivalence, Agrees, int_cmp_total, int_ranks, int_cmp_is, partial_order_from_total, eq_by_cmp_equiv, partial_equiv_from_equiv}
 use Rattle.flow_decimal.specs.declared.decimal.Decimal.{Decimal}
 use Rattle.flow_decimal.specs.Values.{over, decimal_cmp}

@@ -220,7 +220,12 @@ fn texts_are_numbers(rt: HostRuntime) -> Result<(), Fail> {
 #[test]
 fn numbers_compare_and_add(rt: HostRuntime) -> Result<(), Fail> {
     for row in &PAIRS {
-        assert!(rt; is_paired(rt.alloc(), row)?, "of {} and {}", row.first, row.second);
+        assert!(rt;
+            is_paired(rt.alloc(), row)?,
+            "of {} and {}",
+            row.first,
+            row.second
+        );
     }
     Ok(())
 }

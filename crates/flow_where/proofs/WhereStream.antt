@@ -29,9 +29,9 @@ pub where_meaning : WhereMeaning
 where_meaning bound rejects told ended =
     let picks : Place → Bool = λ place. accepts_packet bound place.packet in
     let parted = parted-run where_picker (λ state kind text. refl) picks (Recalls bound)
-        (λ state earlier packet later r. ap (λ (b : Bound). accepts b (kind_of packet) (text_of packet)) r)
-        (λ state earlier packet r. r)
-        (record { bound = bound; rejects = rejects }) told refl ended in
+    (λ state earlier packet later r. ap (λ (b : Bound). accepts b (kind_of packet) (text_of packet)) r)
+    (λ state earlier packet r. r)
+    (record { bound = bound; rejects = rejects }) told refl ended in
     record {
       accepts_those = parted.picks_some ∙ picked-alone (accepts_packet bound) [] _;
       rejects_others = λ is. parted.leaves_others is ∙ picked-alone (λ packet. not (accepts_packet bound packet)) [] _;
