@@ -1,9 +1,10 @@
 -- What Where makes of its stream.
-use Rattle.std.proofs.Common.{◌≡◌, Bool, true, false, List, [], ◌∷◌, ◌++◌, map, refl, sym, ap, ◌∙◌}
+use Rattle.std.proofs.Common.{◌≡◌, Bool, true, false, List, [], ◌∷◌, ◌++◌, refl, ap, ◌∙◌}
 use Rattle.std.specs.Prelude.{not, filter, if◌then◌else◌}
 use Rattle.flow_packet.specs.Tree.{Tree, kind_of, text_of}
+use Rattle.flow_component.specs.Runs.{got}
 use Rattle.flow_decimal.specs.declared.bound.Bound.{Bound}
-use Rattle.flow_pick.specs.Places.{Place, places, picked_behind}
+use Rattle.flow_pick.specs.Places.{Place, picked_behind}
 use Rattle.flow_pick.proofs.PickingStream.{one_of, picked-first, parted-run}
 use Rattle.flow_where.specs.Where.{WhereState, accepts, where_picker}
 use Rattle.flow_where.specs.Meanings.{accepts_packet, WhereMeaning}
@@ -33,7 +34,7 @@ where_meaning bound rejects told ended =
     (λ state earlier packet r. r)
     (record { bound = bound; rejects = rejects }) told refl ended in
     record {
-      accepts_those = parted.picks_some ∙ picked-alone (accepts_packet bound) [] _;
-      rejects_others = λ is. parted.leaves_others is ∙ picked-alone (λ packet. not (accepts_packet bound packet)) [] _;
+      accepts_those = parted.picks_some ∙ picked-alone (accepts_packet bound) [] (got 0 told);
+      rejects_others = λ is. parted.leaves_others is ∙ picked-alone (λ packet. not (accepts_packet bound packet)) [] (got 0 told);
       silent = λ is. parted.drops_others is;
     }
