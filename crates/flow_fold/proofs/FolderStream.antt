@@ -169,7 +169,7 @@ module _ {K S : Type 0} (folding : Folding K S) (is : IsFolding folding) (folded
       let d : stretches (u ∷ x) ≡ record { first = []; later = (u, (stretches x).first) ∷ (stretches x).later } = cut-bracket u x (subst IsMark (sym k) m) in
       let w : rest component.kind stretch texts (u ∷ x) ≡ told_of whole stretch (texts ++ []) (closes (kind_of u)) ++ u ∷ made_from whole (behind (kind_of u)) (stretches x).first (stretches x).later = ap (λ (cut : Cut). made_from whole stretch (texts ++ cut.first) cut.later) d in
       let v : told_of whole stretch (texts ++ []) (closes (kind_of u)) ++ u ∷ made_from whole (behind (kind_of u)) (stretches x).first (stretches x).later ≡ told_of whole stretch (texts ++ []) closed ++ u ∷ later =
-          ap (λ (q : Kind). told_of whole stretch (texts ++ []) (closes q) ++ u ∷ made_from whole (behind q) (stretches x).first (stretches x).later) k ∙ ap (λ (q : Bool). told_of whole stretch (texts ++ []) q ++ u ∷ later) c in
+      ap (λ (q : Kind). told_of whole stretch (texts ++ []) (closes q) ++ u ∷ made_from whole (behind q) (stretches x).first (stretches x).later) k ∙ ap (λ (q : Bool). told_of whole stretch (texts ++ []) q ++ u ∷ later) c in
       a ∙ (λ i. told-so component stretch texts closed l e i ++ b i) ∙ sym (w ∙ v)
 
   after-text : (taken : Taken S) (component : Folded K S) (held : Held) (t : Tree) (text : List ℕ) (x y : List Tree) → kind_of (content t) ≡ Normal → text_of (content t) ≡ text
@@ -179,7 +179,7 @@ module _ {K S : Type 0} (folding : Folding K S) (is : IsFolding folding) (folded
       let a = f stretch (texts ++ text ∷ []) (leads-more component.kind texts (folding.start component.kind) component.state state text l n) (come-more stretch texts text) in
       a ∙ ap (λ (us : Texts). made_from whole stretch us (stretches x).later) (append_assoc texts (text ∷ []) (stretches x).first)
       ∙ sym (ap (λ (cut : Cut). made_from whole stretch (texts ++ cut.first) cut.later) (cut-text (content t) x text k e))
-  after-text (Refuses cause) component held t text x y k e n f = absurd f
+  after-text (Refuses cause) component held t text x y k e n f stretch texts l c = absurd f
 
   -- a packet came
   after-packet : (kind : Kind) (component : Folded K S) (held : Held) (t : Tree) (x y : List Tree) → kind_of (content t) ≡ kind → kind_at held.packets (id_of t) ≡ kind

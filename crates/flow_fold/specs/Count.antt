@@ -22,4 +22,4 @@ count_folded kind texts = decimal (counted (length texts)) ∷ []
 
 -- A Count sends what is made of its stream so.
 abbrev pub CountMeaning : Type 0 → Type 0
-CountMeaning K = FolderMeaning (count_folding {K}) count_folded
+CountMeaning K = FolderMeaning (count_folding {K = K}) count_folded

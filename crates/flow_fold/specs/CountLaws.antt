@@ -8,7 +8,7 @@ use Rattle.flow_fold.specs.Count.{counted, count_folding, count_folded}
 
 module _ {K : Type 0} where
   -- The folding of a Count is one.
-  pub count_laws : IsFolding (count_folding {K})
+  pub count_laws : IsFolding (count_folding {K = K})
   count_laws = record { refuses = λ kind number text cause e. absurd (cc) }
 
   counts : (kind : K) (texts : Texts) (number last : ℕ) → number ≤ 2 ^ 64 - 1 → Leads count_folding kind number texts last → last ≡ counted (number + length texts)
@@ -19,5 +19,8 @@ module _ {K : Type 0} where
       omega (arith, next, rest, few)
 
   -- It tells how many texts came.
-  pub count_tells : IsFolded (count_folding {K}) count_folded
-  count_tells kind texts last l = ap (λ (n : ℕ). decimal n ∷ []) (counts kind texts 0 last (omega arith) l)
+  pub count_tells : IsFolded (count_folding {K = K}) count_folded
+  count_tells kind texts last l =
+      let all : last ≡ counted (0 + length texts) = counts kind texts 0 last (omega arith) l in
+      let e : last ≡ counted (length texts) = omega (arith, all) in
+      ap (λ (n : ℕ). decimal n ∷ []) e

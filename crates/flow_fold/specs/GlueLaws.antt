@@ -22,13 +22,15 @@ kept true count state next e = absurd (cc)
 kept false count state next e = cc
 
 -- these texts, each behind the one that stands between
-behind_each : List ℕ → Texts → List ℕ
+abbrev behind_each : List ℕ → Texts → List ℕ
 behind_each between [] = []
 behind_each between (text ∷ texts) = between ++ text ++ behind_each between texts
 
 glued-first : (between text : List ℕ) (texts : Texts) → glued between (text ∷ texts) ≡ text ++ behind_each between texts
 glued-first between text [] = sym (append-nil text)
-glued-first between text (next ∷ texts) = ap (λ (u : List ℕ). text ++ between ++ u) (glued-first between next texts)
+glued-first between text (next ∷ texts) =
+    append_assoc text between (glued between (next ∷ texts)) ∙ ap (λ (u : List ℕ). text ++ (between ++ u)) (glued-first between next texts)
+    ∙ ap (λ (u : List ℕ). text ++ u) (sym (append_assoc between next (behind_each between texts)))
 
 step : (between : List ℕ) (state next : GluedState) (text : List ℕ) → glue_folding.takes between state text ≡ Keeps next → next ≡ record { begun = true; text = added between state text }
 step between state next text e = kept (nat_lt TEXT_LIMIT (length (added between state text))) (length (added between state text)) (record { begun = true; text = added between state text }) next e
@@ -39,8 +41,7 @@ joined between so_far (text ∷ texts) last l =
     let new = so_far ++ between ++ text in
     let e : l.0 ≡ record { begun = true; text = new } = step between (record { begun = true; text = so_far }) l.0 text l.1 in
     joined between new texts last (subst (λ (s : GluedState). Leads glue_folding between s texts last) e l.2)
-    ∙ append_assoc so_far (between ++ text) (behind_each between texts)
-    ∙ ap (λ (u : List ℕ). so_far ++ u) (append_assoc between text (behind_each between texts))
+    ∙ ap (λ (u : List ℕ). u ++ behind_each between texts) (append_assoc so_far between text) ∙ append_assoc so_far (between ++ text) (behind_each between texts)
 
 all : (between : List ℕ) (texts : Texts) (last : GluedState) → Leads glue_folding between (record { begun = false; text = [] }) texts last → last.text ≡ glued between texts
 all between [] last l = ap (λ (s : GluedState). s.text) l

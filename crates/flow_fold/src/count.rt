@@ -6,9 +6,10 @@ use std::alloc::{AllocError, Global};
 
 /// Makes one packet of each stretch: how many Normal packets it has, in decimal.
 ///
-/// Of a stretch without one it makes none, but for a substream that is empty, an Open packet and the Close packet right behind it, of which it tells
-/// `0`. The number stands still at 2^64 - 1. (The Count of `flow_parts` tells one number of its whole stream, inner
-/// substreams among it, on an output of its own.)
+/// Of a stretch without one it makes none, but for a substream that is empty, an Open packet and the Close packet right
+/// behind it, of which it tells `0`. The number stands still at 2^64 - 1. (The Count of `flow_parts` passes its packets
+/// on, and tells one number of its whole stream, whatever brackets stand there, on an output of its own; also `0`, where
+/// brackets alone came.)
 #[derive(Drop)]
 pub struct Count {
     alloc: Global,

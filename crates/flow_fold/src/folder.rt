@@ -40,7 +40,8 @@ pub trait Fold: Drop {
         requires short { length text.now ≤ TEXT_LIMIT }
         ensures { TakesIn (folding.takes self.now state.old text.now) result state.old state.new };
 
-    /// The text at this place of what is told of the state, if there is one. It may be longer than that of a packet may be.
+    /// The text at this place of what is told of the state, if there is one. One that is longer than a packet's text may
+    /// be is a failure, with the text limit.
     fn tell(&self, state: &Self::State, place: usize) -> Result<Option<Vec<u8>>, AllocError>
         ensures few { length (folding.tells self.now state.now) < 2 ^ 64 }
         ensures told { IfOk result (λ text. IsText text (slice_get (folding.tells self.now state.now) place)) };
@@ -67,12 +68,18 @@ pub enum Stretch {
 #[derive(Clone, Copy, Debug, PartialEq, Eq)]
 pub enum FolderPlace {
     Taking,
-    /// It tells of the stretch in hand, from the text at the place `told` on, before it passes on the bracket, or, where there is none,
-    /// before its end.
-    Telling { before: Option<PacketId>, told: usize },
+    /// It tells of the stretch in hand, from the text at the place `told` on, before it passes on the bracket, or,
+    /// where there is none, before its end.
+    Telling {
+        before: Option<PacketId>,
+        told: usize,
+    },
 }
 
-/// A component that folds, as its kind says.
+/// A component that folds, as its kind says: it takes the Normal packets of a stretch, which are dropped, tells of them in
+/// Normal packets before the bracket or the end behind the stretch, and passes brackets on, with what hangs on them. Of an
+/// empty stretch it tells nothing, but for one between an Open packet and the Close packet right behind it. (Morrison's
+/// control breaks; the exact rule is this project's own.)
 #[derive(Drop)]
 pub struct Folder<F: Fold> {
     kind: F,

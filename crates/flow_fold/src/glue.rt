@@ -12,9 +12,10 @@ use std::marker::Model;
 /// Makes one packet of each stretch: the texts of its Normal packets in order, with a text between each two.
 ///
 /// Of a stretch without a Normal packet it makes none, but for a substream that is empty, an Open packet and the Close
-/// packet right behind it: of that it makes a packet with an empty text. So an empty stream stays empty. It fails with the text limit
-/// at the packet with which the texts of a stretch and what stands between them have more bytes than a packet may,
-/// and tells how many. What hangs on a packet in chains is dropped with it.
+/// packet right behind it: of that it makes a packet with an empty text. So an empty stream stays empty. It fails with
+/// the text limit at the packet with which the texts of a stretch and what stands between them have more bytes than a
+/// packet's text may, and tells how many. What hangs on a packet in chains is dropped with it. (The shell's `paste -s`;
+/// what becomes of brackets and of empty stretches is this project's own.)
 #[derive(Drop)]
 pub struct Glue {
     alloc: Global,

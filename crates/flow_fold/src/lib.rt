@@ -7,6 +7,8 @@ mod count;
 mod folder;
 mod glue;
 mod meanings;
+#[cfg(test)]
+mod tests;
 
 pub use count::Count;
 pub use folder::{Fold, Folder, FolderPlace, Stretch};
