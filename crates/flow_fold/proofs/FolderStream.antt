@@ -4,21 +4,19 @@ use Rattle.std.proofs.Common.{◌≡◌, ℕ, zero, suc, ◌+◌, ◌<◌, Bool,
 use Rattle.std.specs.Prelude.{slice_get}
 use Rattle.flow_packet.specs.declared.packet.Kind.{Kind}
 use Rattle.flow_packet.specs.declared.packet.Kind.TheVariants.{Normal, Open, Close}
-use Rattle.flow_packet.specs.Tree.{Tree, content, id_of, kind_of, text_of, packet_of}
+use Rattle.flow_packet.specs.Tree.{Tree, content, id_of, kind_of, text_of}
 use Rattle.flow_packet.specs.Hands.{packet_at, kind_at, text_at}
 use Rattle.flow_packet.specs.Held.{Held, next_id, with_made, without_packet}
 use Rattle.flow_component.specs.declared.Fail.TheVariants.{TextLimit}
 use Rattle.flow_component.specs.declared.Wish.{Wish}
 use Rattle.flow_component.specs.declared.Wish.TheVariants as wishes
-use Rattle.flow_component.specs.Laws.{Outcome, Wishes, Fails}
+use Rattle.flow_component.specs.Laws.{Outcome, Wishes, Fails, IsAllowed}
 use Rattle.flow_component.specs.Alone.{HoldsOnly}
-use Rattle.flow_component.specs.Ports.{send_first}
+use Rattle.flow_component.specs.Ports.{one_to_one, uses_first, send_first}
 use Rattle.flow_component.specs.Happenings.{Happening, Started, Received, Ended, Sent, Learned, answer_of}
-use Rattle.flow_component.specs.Runs.{Poise, fresh, Steps, Runs, EndedRun, EndIsLast, got, sent, text_packet}
+use Rattle.flow_component.specs.Runs.{Poise, fresh, Steps, Runs, EndIsLast, got, sent, text_packet}
 use Rattle.flow_component.proofs.Lone.{HoldsOnly-packet_at, HoldsOnly-text, HoldsOnly-kind, HoldsOnly-end, HoldsOnly-made, HoldsOnly-made_at}
 use Rattle.flow_component.proofs.Streams.{Comes-packets, contents_in, made_at, content-kind, content-text, port_below_one, port_zero, stays-allowed}
-use Rattle.flow_component.specs.Laws.{IsAllowed}
-use Rattle.flow_component.specs.Ports.{one_to_one, uses_first}
 use Rattle.flow_fold.specs.declared.folder.Stretch.{Stretch}
 use Rattle.flow_fold.specs.declared.folder.Stretch.TheVariants.{Bare, Filled}
 use Rattle.flow_fold.specs.declared.folder.FolderPlace.{FolderPlace}

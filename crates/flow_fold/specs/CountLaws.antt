@@ -1,6 +1,5 @@
 -- The folding of a Count is one, and tells how many texts came.
-use Rattle.std.proofs.Common.{◌≡◌, ℕ, ◌+◌, ◌-◌, ◌^◌, ◌≤◌, List, [], ◌∷◌, length, refl, sym, subst, ap, ◌∙◌, arith}
-use Rattle.std.specs.Prelude.{min}
+use Rattle.std.proofs.Common.{◌≡◌, ℕ, ◌+◌, ◌-◌, ◌^◌, ◌≤◌, [], ◌∷◌, length, sym, ap, arith}
 use Rattle.std.specs.Fmt.{decimal}
 use Rattle.flow_fold.specs.Folding.{Keeps, IsFolding}
 use Rattle.flow_fold.specs.Made.{Texts, Leads, IsFolded}

@@ -1,6 +1,6 @@
 -- Components that fold keep the laws of components.
 use Rattle.flow_limits.specs.declared.TheConstants.{TEXT_LIMIT, HANDS_LIMIT}
-use Rattle.std.proofs.Common.{◌≡◌, ℕ, ◌+◌, Bool, true, false, List, [], ◌∷◌, length, Option, Some, None, nat_lt, cond, refl, sym, subst, ap, ◌∙◌, ◌<◌, arith}
+use Rattle.std.proofs.Common.{◌≡◌, ℕ, ◌+◌, Bool, true, false, List, [], length, Option, Some, None, nat_lt, cond, refl, sym, subst, ap, ◌∙◌, ◌<◌, arith}
 use Rattle.std.specs.Prelude.{slice_get}
 use Rattle.flow_packet.specs.declared.packet.Kind.{Kind}
 use Rattle.flow_packet.specs.declared.packet.Kind.TheVariants.{Normal, Open, Close}
@@ -17,11 +17,10 @@ use Rattle.flow_component.specs.Ports.{one_to_one, uses_first, receive_first, se
 use Rattle.flow_component.proofs.Roots.{IsAtRoot-made, made_gone}
 use Rattle.flow_component.proofs.Comings.{comes_same, comes_dropped, comes_made}
 use Rattle.flow_component.proofs.Lone.{HoldsOnly-without, HoldsOnly-root, HoldsOnly-left, HoldsOnly-came, HoldsOnly-made_alone}
-use Rattle.flow_fold.specs.declared.folder.Stretch.{Stretch}
-use Rattle.flow_fold.specs.declared.folder.Stretch.TheVariants.{Bare, Filled}
+use Rattle.flow_fold.specs.declared.folder.Stretch.TheVariants.{Filled}
 use Rattle.flow_fold.specs.declared.folder.FolderPlace.{FolderPlace}
 use Rattle.flow_fold.specs.declared.folder.FolderPlace.TheVariants.{Taking, Telling}
-use Rattle.flow_fold.specs.Folding.{Folding, Folded, Taken, Keeps, Refuses, beginning, behind, is_told, makes, ends, tells_one, tells_from, closes_off, text_taken, meets, goes_on, folder_next, folder_rules, IsTaking, IsBefore, IsReadyOn, FolderReady, IsFolding}
+use Rattle.flow_fold.specs.Folding.{Folding, Folded, Taken, Keeps, Refuses, is_told, ends, tells_one, tells_from, text_taken, meets, goes_on, folder_next, folder_rules, IsTaking, IsBefore, IsReadyOn, FolderReady, IsFolding}
 
 module _ {K S : Type 0} (folding : Folding K S) (is : IsFolding folding) where
   -- The work from these hands leads to a lawful outcome.

@@ -1,11 +1,11 @@
 -- The folding of a Glue is one, and tells what it joins.
 use Rattle.flow_limits.specs.declared.TheConstants.{TEXT_LIMIT}
-use Rattle.std.proofs.Common.{◌≡◌, ℕ, Bool, true, false, List, [], ◌∷◌, ◌++◌, length, nat_lt, cond, refl, sym, subst, ap, ◌∙◌, append-nil, append_assoc}
+use Rattle.std.proofs.Common.{◌≡◌, ℕ, Bool, true, false, List, [], ◌∷◌, ◌++◌, length, nat_lt, cond, sym, subst, ap, ◌∙◌, append-nil, append_assoc}
 use Rattle.flow_component.specs.declared.Fail.{Fail}
 use Rattle.flow_component.specs.declared.Fail.TheVariants.{TextLimit}
 use Rattle.flow_component.specs.Laws.{IsOwnCause}
 use Rattle.flow_component.specs.Ports.{one_to_one}
-use Rattle.flow_fold.specs.Folding.{Taken, Keeps, Refuses, IsFolding}
+use Rattle.flow_fold.specs.Folding.{Keeps, Refuses, IsFolding}
 use Rattle.flow_fold.specs.Made.{Texts, Leads, IsFolded}
 use Rattle.flow_fold.specs.Glue.{GluedState, glued, added, glue_folding, glue_folded}
 

@@ -6,7 +6,7 @@ use Rattle.flow_packet.specs.Tree.{Tree, kind_of, text_of}
 use Rattle.flow_component.specs.Happenings.{Happening}
 use Rattle.flow_component.specs.Runs.{EndedRun, EndIsLast, HeardEnd, got, sent, text_packet}
 use Rattle.flow_fold.specs.declared.folder.Stretch.{Stretch}
-use Rattle.flow_fold.specs.declared.folder.Stretch.TheVariants.{Bare, Opened, Filled}
+use Rattle.flow_fold.specs.declared.folder.Stretch.TheVariants.{Bare, Filled}
 use Rattle.flow_fold.specs.Folding.{Folding, Keeps, beginning, behind, closes, is_told, folder_rules}
 
 -- The texts of a stretch.

@@ -1,7 +1,7 @@
 //! A component that folds, made of what a kind says of a stretch.
 
 ghost use Rattle.flow_limits.specs.declared.TheConstants.{TEXT_LIMIT, HANDS_LIMIT};
-ghost use Rattle.std.specs.Prelude.{◌≡◌, ◌+◌, ◌<◌, ◌≤◌, ◌^◌, ℕ, List, length, IfOk, Ok, slice_get};
+ghost use Rattle.std.specs.Prelude.{◌≡◌, ◌+◌, ◌<◌, ◌≤◌, ◌^◌, length, IfOk, Ok, slice_get};
 ghost use Rattle.flow_packet.specs.Hands.{text_at};
 ghost use Rattle.flow_packet.specs.Held.{held_of};
 ghost use Rattle.flow_component.specs.Alone.{HoldsOnly};
