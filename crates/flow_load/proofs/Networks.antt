@@ -15,7 +15,7 @@ use Rattle.flow_load.specs.declared.stop.Stop.TheVariants.{Words, Refused, NoPar
 use Rattle.flow_load.specs.declared.stop.NetRefusal.{NetRefusal}
 use Rattle.flow_load.specs.declared.stop.NetRefusal.TheVariants as refusals
 
-one-text : (net : List ℕ) (a b : NetText) → Spells net a → Spells net b → a ≡ b
+pub one-text : (net : List ℕ) (a b : NetText) → Spells net a → Spells net b → a ≡ b
 one-text net a b is other = let same = one_outcome 1 None (lines net) (Ok a) (Ok b) is other in cc
 
 -- bytes that hold a network aren't refused
