@@ -119,11 +119,7 @@ impl StdKind {
         ensures { result ≡ since self }
     {
         match self {
-            StdKind::Find
-            | StdKind::Split
-            | StdKind::Rewrite
-            | StdKind::Glue
-            | StdKind::Where => 3,
+            StdKind::Find | StdKind::Split | StdKind::Rewrite | StdKind::Glue | StdKind::Where => 3,
             _ => 1,
         }
     }

@@ -73,17 +73,17 @@ rewrite-run component p told x first over = subst (λ (w : Mapped Rewriting). En
 
 -- Where the second output isn't connected nothing goes there.
 rejects-none-as : (own : Rewriting) (kind : Kind) (packet : Tree) → own.rest ≡ false → rejects_as own kind packet ≡ []
-rejects-none-as own Normal packet open = by (matches own.by.pattern (text_of packet))
+rejects-none-as own Normal packet unused = by (matches own.by.pattern (text_of packet))
   where
     by : (found : Bool) → (if found then [] else (if own.rest then packet ∷ [] else [])) ≡ []
     by true = refl
-    by false = rw open refl
-rejects-none-as own Open packet open = refl
-rejects-none-as own Close packet open = refl
+    by false = rw unused refl
+rejects-none-as own Open packet unused = refl
+rejects-none-as own Close packet unused = refl
 
 rejects-none : (own : Rewriting) (x : List Tree) → own.rest ≡ false → flat_map (rejects own) x ≡ []
-rejects-none own [] open = refl
-rejects-none own (packet ∷ packets) open = ap (λ (first : List Tree). first ++ flat_map (rejects own) packets) (rejects-none-as own (kind_of packet) packet open) ∙ rejects-none own packets open
+rejects-none own [] unused = refl
+rejects-none own (packet ∷ packets) unused = ap (λ (first : List Tree). first ++ flat_map (rejects own) packets) (rejects-none-as own (kind_of packet) packet unused) ∙ rejects-none own packets unused
 
 -- What leaves at the second output, where streams are the same or it isn't connected.
 second-change : (own : Rewriting) (rest : Bool) (x x' y y' : List Tree) → own.rest ≡ rest → x ≡ x' → (rest ≡ true → y ≡ y') → (y ≡ [] → y' ≡ []) → y ≡ flat_map (rejects own) x → y' ≡ flat_map (rejects own) x'

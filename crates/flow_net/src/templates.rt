@@ -28,11 +28,7 @@ fn given_at(process: &Process, place: u32) -> Option<&[u8]>
 }
 
 // Whether a text is a template for this pattern. To read them takes memory.
-fn is_template_for(
-    alloc: Global,
-    pattern: Option<&[u8]>,
-    text: &[u8],
-) -> Result<bool, AllocError>
+fn is_template_for(alloc: Global, pattern: Option<&[u8]>, text: &[u8]) -> Result<bool, AllocError>
     ensures { IfOk result (λ is. IsTrue is ↔ IsTemplateFor (option_map (λ pattern. pattern.now) pattern) text.now) }
 {
     let Some(pattern) = pattern else {
@@ -56,12 +52,7 @@ fn unfit(alloc: Global, process: &Process, row: &PortRow) -> Result<PlanFault, A
 }
 
 // That the port at this place, which stands in this row, is given none but a template for its pattern.
-fn check_row(
-    alloc: Global,
-    process: &Process,
-    place: u32,
-    row: &PortRow,
-) -> Result<(), PlanStop>
+fn check_row(alloc: Global, process: &Process, place: u32, row: &PortRow) -> Result<(), PlanStop>
     ensures { RowHasTemplate process.now place row.now result }
 {
     let PortClass::Template { pattern } = row.spec.class else {
