@@ -243,7 +243,8 @@ fn template_of<'a>(kind: &'a KindSpec, name: &[u8]) -> Option<(&'a PortSpec, &'a
     Some((option, pattern))
 }
 
-// A text that is no template for its pattern, which is told of a whole network and not of a statement: so both lines are shown.
+// A text that is no template for its pattern, which is told of a whole network and not of a statement: so its line and that of the pattern are
+// shown.
 fn put_bad_template<'a>(
     net: Net<'a>,
     page: &mut String,
@@ -251,12 +252,12 @@ fn put_bad_template<'a>(
     option: &PortSpec,
     pattern: &PortSpec,
 ) -> Result<(), AllocError> {
-    let wanted = Wanted::Port(Side::Input, home.process, pattern.name.as_slice());
-    let with = net.find(home, &wanted)?;
-    put_if_found(page, with)?;
     let wanted = Wanted::Port(Side::Input, home.process, option.name.as_slice());
     let found = net.find(home, &wanted)?;
     put_if_found(page, found)?;
+    let wanted = Wanted::Port(Side::Input, home.process, pattern.name.as_slice());
+    let with = net.find(home, &wanted)?;
+    put_if_found(page, with)?;
     put_option(page, &option.name, option.class)?;
     match (with, found) {
         (Some(with), Some(found)) => put_template_slip(net.alloc, page, &with, &found),
