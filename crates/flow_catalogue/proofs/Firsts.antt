@@ -110,3 +110,8 @@ first-fits n p x kinds.Tail file is = record { inputs = sym is.inputs; outputs =
 first-fits n p x kinds.Match file is = record { inputs = sym is.inputs; outputs = sym is.outputs; uses = match-used n p (option_text 0 x.options) (is.needed 0 refl); starts = λ held none. none }
 first-fits n p x kinds.Replace file is = record { inputs = sym is.inputs; outputs = sym is.outputs; uses = first-used n p (is.needed 0 refl); starts = λ held none. none }
 first-fits n p x kinds.Sort file is = record { inputs = sym is.inputs; outputs = sym is.outputs; uses = first-used n p (is.needed 0 refl); starts = λ held none. (tt, none) }
+first-fits n p x kinds.Find file is = record { inputs = sym is.inputs; outputs = sym is.outputs; uses = first-used n p (is.needed 0 refl); starts = λ held none. (tt, none) }
+first-fits n p x kinds.Split file is = record { inputs = sym is.inputs; outputs = sym is.outputs; uses = first-used n p (is.needed 0 refl); starts = λ held none. (tt, none) }
+first-fits n p x kinds.Rewrite file is = record { inputs = sym is.inputs; outputs = sym is.outputs; uses = parting-used n p (is.needed 0 refl); starts = λ held none. (tt, none) }
+first-fits n p x kinds.Glue file is = record { inputs = sym is.inputs; outputs = sym is.outputs; uses = first-used n p (is.needed 0 refl); starts = λ held none. (tt, none) }
+first-fits n p x kinds.Where file is = record { inputs = sym is.inputs; outputs = sym is.outputs; uses = parting-used n p (is.needed 0 refl); starts = λ held none. none }

@@ -43,6 +43,11 @@ place-of kinds.Tail = (20, refl)
 place-of kinds.Match = (21, refl)
 place-of kinds.Replace = (22, refl)
 place-of kinds.Sort = (23, refl)
+place-of kinds.Find = (24, refl)
+place-of kinds.Split = (25, refl)
+place-of kinds.Rewrite = (26, refl)
+place-of kinds.Glue = (27, refl)
+place-of kinds.Where = (28, refl)
 
 -- a name is among the names that have it at a place
 among : (name : List ℕ) (names : List (List ℕ)) (i : ℕ) → slice_get names i ≡ Some name → list_any (bytes_eq name) names ≡ true

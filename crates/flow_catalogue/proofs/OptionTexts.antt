@@ -52,6 +52,7 @@ has-options n p x table specs valid there here is = record {
   only = λ k place text given.
       let fits = valid.options.fits p k place x text there given in
       (fits.port.row.spec, at-place place fits.port.row (own-row place text fits), fits.port.option);
+  short = λ k place text given. (valid.options.fits p k place x text there given).short;
   once = λ k l place text other given too. valid.options.one_option p k l place x text other there given too;
 }
   where

@@ -62,6 +62,21 @@ use Rattle.flow_match.specs.Match.{MatchState, match_next, match_rules}
 use Rattle.flow_match.specs.MatchLaws.{match_lawful}
 use Rattle.flow_match.specs.Replace.{replace_next, replace_rules}
 use Rattle.flow_match.specs.ReplaceLaws.{replace_lawful}
+use Rattle.flow_pick.specs.Picking.{picker_next}
+use Rattle.flow_map.specs.Mapping.{Mapped, mapper_next}
+use Rattle.flow_map.specs.MappingLaws.{mapper_lawful}
+use Rattle.flow_find.specs.Find.{find_mapping, find_rules}
+use Rattle.flow_find.specs.FindLaws.{find_laws}
+use Rattle.flow_find.specs.Split.{Splitting, split_mapping, split_rules}
+use Rattle.flow_find.specs.SplitLaws.{split_laws}
+use Rattle.flow_find.specs.Rewrite.{Rewriting, rewrite_mapping, rewrite_rules}
+use Rattle.flow_find.specs.RewriteLaws.{rewrite_laws}
+use Rattle.flow_fold.specs.Folding.{Folded, folder_next, folder_rules}
+use Rattle.flow_fold.specs.FoldingLaws.{folder_lawful}
+use Rattle.flow_fold.specs.Glue.{GluedState, glue_folding}
+use Rattle.flow_fold.specs.GlueLaws.{glue_laws}
+use Rattle.flow_where.specs.Where.{WhereState, where_picker, where_rules}
+use Rattle.flow_where.specs.WhereLaws.{where_lawful}
 use Rattle.flow_catalogue.specs.Kinded.{Kinded}
 
 -- Reads the lines of its file.
@@ -159,3 +174,23 @@ tail_kind = record { rules = tail_rules; lawful = tail_lawful; next = tail_next;
 -- Sorts the stretches of its stream.
 abbrev pub sort_kind : Kinded SortState
 sort_kind = record { rules = sort_rules; lawful = sort_lawful; next = sort_next; comes = λ _ _ _. refl; alone = λ _ _ _ _ is. is; written = λ _. None }
+
+-- Sends what a template makes of each match of a pattern.
+abbrev pub find_kind : Kinded (Mapped Replacement)
+find_kind = record { rules = find_rules; lawful = mapper_lawful find_mapping find_laws; next = mapper_next find_mapping; comes = λ _ _ _. refl; alone = λ _ _ _ _ is. is; written = λ _. None }
+
+-- Sends the texts between the matches of a pattern.
+abbrev pub split_kind : Kinded (Mapped Splitting)
+split_kind = record { rules = split_rules; lawful = mapper_lawful split_mapping split_laws; next = mapper_next split_mapping; comes = λ _ _ _. refl; alone = λ _ _ _ _ is. is; written = λ _. None }
+
+-- Replaces the matches of a pattern by what a template makes of them.
+abbrev pub rewrite_kind : Kinded (Mapped Rewriting)
+rewrite_kind = record { rules = rewrite_rules; lawful = mapper_lawful rewrite_mapping rewrite_laws; next = mapper_next rewrite_mapping; comes = λ _ _ _. refl; alone = λ _ _ _ _ is. is; written = λ _. None }
+
+-- Makes one text of each stretch.
+abbrev pub glue_kind : Kinded (Folded (List ℕ) GluedState)
+glue_kind = record { rules = folder_rules glue_folding; lawful = folder_lawful glue_folding glue_laws; next = folder_next glue_folding; comes = λ _ _ _. refl; alone = λ _ _ _ _ is. is; written = λ _. None }
+
+-- Accepts packets whose text is a number within a bound.
+abbrev pub where_kind : Kinded WhereState
+where_kind = record { rules = where_rules; lawful = where_lawful; next = picker_next where_picker; comes = λ _ _ _. refl; alone = λ _ _ _ _ is. is; written = λ _. None }

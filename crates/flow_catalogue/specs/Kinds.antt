@@ -1,11 +1,11 @@
 -- The table of the standard kinds: one row for each. (Morrison's components and JavaFBP's; the ports are this project's own.)
 use Rattle.flow_limits.specs.declared.TheConstants.{TEXT_LIMIT}
-use Rattle.std.specs.Prelude.{ℕ, List, [], ◌∷◌, map, codes}
-use Rattle.flow_plan.specs.declared.kind.PortClass.TheVariants.{Number, Fields, File, Pattern, Text}
+use Rattle.std.specs.Prelude.{ℕ, Bool, nat_le, List, [], ◌∷◌, filter, map, codes}
+use Rattle.flow_plan.specs.declared.kind.PortClass.TheVariants.{Number, Fields, File, Pattern, Template, Bound, Whether, Text}
 use Rattle.flow_plan.specs.declared.kind.PortSpec.{PortSpec}
 use Rattle.flow_plan.specs.declared.kind.KindSpec.{KindSpec}
 use Rattle.flow_catalogue.specs.declared.table.StdKind.{StdKind}
-use Rattle.flow_catalogue.specs.declared.table.StdKind.TheVariants.{ReadLines, WriteLines, Passthru, Words, Fill, Brackets, Copy, Concat, Collate, Discard, Bundle, Unbundle, Hoard, Count, LoadBalance, Select, Update, Tally, Unique, Head, Tail, Match, Replace, Sort}
+use Rattle.flow_catalogue.specs.declared.table.StdKind.TheVariants.{ReadLines, WriteLines, Passthru, Words, Fill, Brackets, Copy, Concat, Collate, Discard, Bundle, Unbundle, Hoard, Count, LoadBalance, Select, Update, Tally, Unique, Head, Tail, Match, Replace, Sort, Find, Split, Rewrite, Glue, Where}
 use Rattle.flow_catalogue.specs.Rows.{option_port, optional_option_port, stream_port, array_port, optional_port}
 
 -- A kind of this name, with these ports.
@@ -38,6 +38,11 @@ spec_of Tail = row (codes "Tail") (option_port (codes "COUNT") (Number 0 4294967
 spec_of Match = row (codes "Match") (option_port (codes "PATTERN") Pattern ∷ stream_port (codes "IN") ∷ []) (stream_port (codes "ACC") ∷ optional_port (codes "REJ") ∷ [])
 spec_of Replace = row (codes "Replace") (option_port (codes "PATTERN") Pattern ∷ option_port (codes "WITH") Text ∷ stream_port (codes "IN") ∷ []) (stream_port (codes "OUT") ∷ [])
 spec_of Sort = row (codes "Sort") (optional_option_port (codes "FIELDS") Fields ∷ stream_port (codes "IN") ∷ []) (stream_port (codes "OUT") ∷ [])
+spec_of Find = row (codes "Find") (option_port (codes "PATTERN") Pattern ∷ optional_option_port (codes "WITH") (Template 0) ∷ stream_port (codes "IN") ∷ []) (stream_port (codes "OUT") ∷ [])
+spec_of Split = row (codes "Split") (option_port (codes "PATTERN") Pattern ∷ optional_option_port (codes "BRACKETS") Whether ∷ stream_port (codes "IN") ∷ []) (stream_port (codes "OUT") ∷ [])
+spec_of Rewrite = row (codes "Rewrite") (option_port (codes "PATTERN") Pattern ∷ option_port (codes "WITH") (Template 0) ∷ stream_port (codes "IN") ∷ []) (stream_port (codes "OUT") ∷ optional_port (codes "REST") ∷ [])
+spec_of Glue = row (codes "Glue") (option_port (codes "WITH") Text ∷ stream_port (codes "IN") ∷ []) (stream_port (codes "OUT") ∷ [])
+spec_of Where = row (codes "Where") (option_port (codes "IS") Bound ∷ stream_port (codes "IN") ∷ []) (stream_port (codes "ACC") ∷ optional_port (codes "REJ") ∷ [])
 
 -- A kind's name in a network file.
 abbrev pub name_of : StdKind → List ℕ
@@ -45,8 +50,25 @@ name_of kind = (spec_of kind).name
 
 -- All standard kinds, in the order of the table.
 abbrev pub all_kinds : List StdKind
-all_kinds = ReadLines ∷ WriteLines ∷ Passthru ∷ Words ∷ Fill ∷ Brackets ∷ Copy ∷ Concat ∷ Collate ∷ Discard ∷ Bundle ∷ Unbundle ∷ Hoard ∷ Count ∷ LoadBalance ∷ Select ∷ Update ∷ Tally ∷ Unique ∷ Head ∷ Tail ∷ Match ∷ Replace ∷ Sort ∷ []
+all_kinds = ReadLines ∷ WriteLines ∷ Passthru ∷ Words ∷ Fill ∷ Brackets ∷ Copy ∷ Concat ∷ Collate ∷ Discard ∷ Bundle ∷ Unbundle ∷ Hoard ∷ Count ∷ LoadBalance ∷ Select ∷ Update ∷ Tally ∷ Unique ∷ Head ∷ Tail ∷ Match ∷ Replace ∷ Sort ∷ Find ∷ Split ∷ Rewrite ∷ Glue ∷ Where ∷ []
 
 -- The table.
 abbrev pub std_kinds : List KindSpec
 std_kinds = map spec_of all_kinds
+
+-- The first version of network files that may name the kind.
+abbrev pub since : StdKind → ℕ
+since Find = 3
+since Split = 3
+since Rewrite = 3
+since Glue = 3
+since Where = 3
+since _ = 1
+
+-- A network file of this version may name the kind.
+abbrev pub is_of_version : ℕ → StdKind → Bool
+is_of_version version kind = nat_le (since kind) version
+
+-- The part of the table that network files of this version may name, in its order.
+abbrev pub std_kinds_of : ℕ → List KindSpec
+std_kinds_of version = map spec_of (filter (is_of_version version) all_kinds)

@@ -1,6 +1,7 @@
 -- What a plan says of a process of a standard kind.
-use Rattle.std.specs.Prelude.{◌≡◌, ℕ, ◌==◌, ◌&&◌, Bool, true, List, [], ◌∷◌, map, sum, Option, Some, None, slice_get, unwrap_or, IsTrue}
+use Rattle.std.specs.Prelude.{◌≡◌, ℕ, ◌==◌, ◌&&◌, Bool, true, List, [], ◌∷◌, map, sum, Option, Some, None, slice_get, unwrap_or, IsTrue, codes, pos, Result, Ok, Err}
 use Rattle.std.specs.List.{list_any, slice_split}
+use Rattle.std.specs.Str.{bytes_eq}
 use Rattle.std.specs.Str.Lines.{lines}
 use Rattle.flow_plan.specs.declared.plan.Process.{Process}
 use Rattle.flow_plan.specs.declared.plan.Connection.{Connection}
@@ -23,6 +24,15 @@ use Rattle.flow_pick.specs.Head.{fresh_head}
 use Rattle.flow_pick.specs.Tail.{fresh_tail}
 use Rattle.flow_sort.specs.Meanings.{fresh_sort}
 use Rattle.flow_batch.specs.Updated.{fresh_update}
+use Rattle.flow_decimal.specs.declared.bound.Bound.{Bound}
+use Rattle.flow_decimal.specs.declared.bound.BoundStop.{BoundStop}
+use Rattle.flow_decimal.specs.declared.bound.Comparison.TheVariants.{Same}
+use Rattle.flow_decimal.specs.Bounds.{bound_reading}
+use Rattle.flow_pattern.specs.Template.{whole_match}
+use Rattle.flow_map.specs.Mapping.{waiting}
+use Rattle.flow_fold.specs.declared.folder.Stretch.TheVariants.{Bare}
+use Rattle.flow_fold.specs.Folding.{beginning}
+use Rattle.flow_fold.specs.Glue.{glue_folding}
 use Rattle.flow_catalogue.specs.declared.table.StdKind.{StdKind}
 use Rattle.flow_catalogue.specs.declared.table.StdKind.TheVariants as kinds
 use Rattle.flow_catalogue.specs.declared.standard.Std.{Std}
@@ -59,6 +69,24 @@ fields_of text = map number_of (slice_split (λ b. b == 32) text)
 abbrev pub length_of_keys : List ℕ → Option ℕ
 length_of_keys [] = None
 length_of_keys (c ∷ cs) = Some (sum (fields_of (c ∷ cs)))
+
+-- The template that a text is, where an empty one, or none, is the template for the whole match.
+abbrev pub template_of : List ℕ → List ℕ
+template_of [] = whole_match
+template_of (c ∷ cs) = c ∷ cs
+
+-- The text says yes.
+abbrev pub is_yes : List ℕ → Bool
+is_yes text = bytes_eq text (codes "yes")
+
+-- The bound that was read. (Where none was, the text is no option of a plan.)
+abbrev pub bound_read : Result Bound BoundStop → Bound
+bound_read (Ok bound) = bound
+bound_read (Err stop) = record { comparison = Same; number = record { whole = pos 0; fraction = 0 } }
+
+-- The bound that a text spells.
+abbrev pub bound_of : List ℕ → Bound
+bound_of text = bound_read (bound_reading text)
 
 -- Whether output o of process p is among the senders of a connection.
 abbrev pub has_sender : ℕ → ℕ → Connection → Bool
@@ -106,6 +134,11 @@ first_component kinds.Tail given file = components.Tail (fresh_tail (number_of (
 first_component kinds.Match given file = components.Match (record { pattern = given.option 0; rejects = given.connected 1 })
 first_component kinds.Replace given file = components.Replace (record { pattern = given.option 0; with = given.option 1 })
 first_component kinds.Sort given file = components.Sort (fresh_sort (length_of_keys (given.option 0)))
+first_component kinds.Find given file = components.Find (waiting (record { pattern = given.option 0; with = template_of (given.option 1) }))
+first_component kinds.Split given file = components.Split (waiting (record { pattern = given.option 0; bracketed = is_yes (given.option 1) }))
+first_component kinds.Rewrite given file = components.Rewrite (waiting (record { by = record { pattern = given.option 0; with = given.option 1 }; rest = given.connected 1 }))
+first_component kinds.Glue given file = components.Glue (beginning glue_folding (given.option 0) Bare)
+first_component kinds.Where given file = components.Where (record { bound = bound_of (given.option 0); rejects = given.connected 1 })
 
 -- The component is that of process p, in its first state on this file.
 pub record IsMade (network : Network) (p : ℕ) (process : Process) (file : List ℕ) (component : Std) : Type 0 where

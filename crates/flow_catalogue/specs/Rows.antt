@@ -1,14 +1,14 @@
 -- The rows of the table of kinds: their ports as they are spelled in Morrison's diagrams, and what a process of a row has.
-use Rattle.flow_limits.specs.declared.TheConstants.{ELEMENT_LIMIT}
+use Rattle.flow_limits.specs.declared.TheConstants.{ELEMENT_LIMIT, TEXT_LIMIT}
 use Rattle.std.specs.Prelude.{◌≡◌, ◌==◌, ℕ, zero, suc, ◌+◌, ◌≤◌, ◌&&◌, if◌then◌else◌, nat_le, Bool, true, false, List, [], ◌∷◌, map, length, Option, Some, None, find, option_map, slice_get}
 use Rattle.std.specs.List.{list_all, list_any, range_with_len}
 use Rattle.flow_plan.specs.declared.kind.PortClass.{PortClass}
-use Rattle.flow_plan.specs.declared.kind.PortClass.TheVariants.{Stream}
+use Rattle.flow_plan.specs.declared.kind.PortClass.TheVariants.{Stream, Template}
 use Rattle.flow_plan.specs.declared.kind.PortSpec.{PortSpec}
 use Rattle.flow_plan.specs.declared.kind.KindSpec.{KindSpec}
 use Rattle.flow_plan.specs.Network.{is_stream}
 use Rattle.flow_net.specs.Over.{carries}
-use Rattle.flow_plan.specs.Texts.{IsOfClass}
+use Rattle.flow_plan.specs.Texts.{IsOfClass, IsTemplateFor}
 
 -- A port that takes one text before the network runs.
 abbrev pub option_port : List ℕ → PortClass → PortSpec
@@ -76,10 +76,12 @@ IsGiven spec (Some text) = IsOfClass spec.class text
 abbrev pub IsOptionPlace : List PortSpec → ℕ → Type 0
 IsOptionPlace specs place = (spec : PortSpec) × (slice_get specs place ≡ Some spec) × (is_stream spec.class ≡ false)
 
--- The options of a process whose row has these inputs: each option port is given what it may be, only option ports are given texts, and none is given two.
+-- The options of a process whose row has these inputs: each option port is given what it may be, only option ports are given texts, each no longer than a packet's may be, and none is given two; and a template is one for its pattern.
 pub record HasOptions (specs : List PortSpec) (options : List (ℕ × List ℕ)) : Type 0 where
   pub each : (place : ℕ) (spec : PortSpec) → slice_get specs place ≡ Some spec → is_stream spec.class ≡ false → IsGiven spec (option_at place options)
   pub only : (k place : ℕ) (text : List ℕ) → slice_get options k ≡ Some (place, text) → IsOptionPlace specs place
+  pub short : (k place : ℕ) (text : List ℕ) → slice_get options k ≡ Some (place, text) → length text ≤ TEXT_LIMIT
+  pub templates : (place pattern : ℕ) (spec : PortSpec) (text : List ℕ) → slice_get specs place ≡ Some spec → spec.class ≡ Template pattern → option_at place options ≡ Some text → IsTemplateFor (option_at pattern options) text
   pub once : (k l place : ℕ) (text other : List ℕ) → slice_get options k ≡ Some (place, text) → slice_get options l ≡ Some (place, other) → k ≡ l
 
 -- Which of a process's outputs have to be connected: those of an array all, of other ports those that are needed.

@@ -6,6 +6,7 @@
 mod options;
 mod plans;
 mod process;
+mod spelled;
 mod standard;
 mod table;
 
@@ -16,4 +17,4 @@ pub use plans::{
 };
 pub use process::{FileUse, file_of, make};
 pub use standard::{Std, standard_components_come_to_one_outcome};
-pub use table::{StdKind, kinds};
+pub use table::{StdKind, kinds, kinds_of};

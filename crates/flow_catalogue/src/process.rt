@@ -11,6 +11,7 @@ ghost use Rattle.flow_catalogue.specs.Files.{UsesFile, NamesFile};
 
 use crate::options::{fields, is_connected, number as number_in, option_text};
 use crate::plans::a_first_component_fits;
+use crate::spelled::{bounding, finding, gluing, rewriting, splitting};
 use crate::standard::Std;
 use crate::table::StdKind;
 use flow_batch::Update;
@@ -184,6 +185,14 @@ fn first_component(
             is_connected(plan, number, 1),
         ))),
         StdKind::Sort => Ok(Std::Sort(sort(alloc, process)?)),
+        StdKind::Find => Ok(Std::Find(finding(alloc, process)?)),
+        StdKind::Split => Ok(Std::Split(splitting(alloc, process)?)),
+        StdKind::Rewrite => {
+            let rest = is_connected(plan, number, 1);
+            Ok(Std::Rewrite(rewriting(alloc, process, rest)?))
+        }
+        StdKind::Glue => Ok(Std::Glue(gluing(alloc, process)?)),
+        StdKind::Where => Ok(Std::Where(bounding(process, is_connected(plan, number, 1)))),
     }
 }
 

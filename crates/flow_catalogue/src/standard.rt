@@ -7,6 +7,9 @@ ghost use Rattle.flow_catalogue.specs.Std.{std_rules};
 
 use flow_batch::Update;
 use flow_component::{Answer, Component, Shape, Stop, Wish};
+use flow_find::{Find, Rewrite, Split};
+use flow_fold::{Folder, Glue};
+use flow_map::Mapper;
 use flow_match::{Match, Replace};
 use flow_packet::Hands;
 use flow_parts::{Brackets, Count, Fill, ReadLines, Tally, Words, WriteLines};
@@ -16,6 +19,7 @@ use flow_streams::{
     Bundle, Collate, Concat, Copy as CopyEach, Discard, Hoard, LoadBalance, Passthru, Select,
     Unbundle,
 };
+use flow_where::Where;
 
 /// A standard component.
 #[derive(Drop)]
@@ -44,6 +48,11 @@ pub enum Std {
     Match(Match),
     Replace(Replace),
     Sort(Sort),
+    Find(Mapper<Find>),
+    Split(Mapper<Split>),
+    Rewrite(Mapper<Rewrite>),
+    Glue(Folder<Glue>),
+    Where(Where),
 }
 
 impl Std {
@@ -94,6 +103,11 @@ impl Component for Std {
             Std::Match(component) => component.shape(),
             Std::Replace(component) => component.shape(),
             Std::Sort(component) => component.shape(),
+            Std::Find(component) => component.shape(),
+            Std::Split(component) => component.shape(),
+            Std::Rewrite(component) => component.shape(),
+            Std::Glue(component) => component.shape(),
+            Std::Where(component) => component.shape(),
         }
     }
 
@@ -124,6 +138,11 @@ impl Component for Std {
             Std::Match(component) => component.resume(hands, answer),
             Std::Replace(component) => component.resume(hands, answer),
             Std::Sort(component) => component.resume(hands, answer),
+            Std::Find(component) => component.resume(hands, answer),
+            Std::Split(component) => component.resume(hands, answer),
+            Std::Rewrite(component) => component.resume(hands, answer),
+            Std::Glue(component) => component.resume(hands, answer),
+            Std::Where(component) => component.resume(hands, answer),
         }
     }
 

@@ -1,7 +1,7 @@
 //! The table of the standard kinds.
 
 ghost use Rattle.std.specs.Prelude.{◌≡◌, ◌≢◌, ◌∷◌, [], IfOk, MatchOption, codes};
-ghost use Rattle.flow_catalogue.specs.Kinds.{name_of, row, spec_of, std_kinds};
+ghost use Rattle.flow_catalogue.specs.Kinds.{name_of, row, since, spec_of, std_kinds, std_kinds_of};
 ghost use Rattle.flow_catalogue.specs.Rows.{option_port, optional_option_port, stream_port, array_port, optional_port};
 
 use flow_items::{Items, Text};
@@ -36,10 +36,15 @@ pub enum StdKind {
     Match,
     Replace,
     Sort,
+    Find,
+    Split,
+    Rewrite,
+    Glue,
+    Where,
 }
 
 // All kinds, in the order of the table.
-const ALL: [StdKind; 24] = [
+const ALL: [StdKind; 29] = [
     StdKind::ReadLines,
     StdKind::WriteLines,
     StdKind::Passthru,
@@ -64,6 +69,11 @@ const ALL: [StdKind; 24] = [
     StdKind::Match,
     StdKind::Replace,
     StdKind::Sort,
+    StdKind::Find,
+    StdKind::Split,
+    StdKind::Rewrite,
+    StdKind::Glue,
+    StdKind::Where,
 ];
 
 impl StdKind {
@@ -96,6 +106,21 @@ impl StdKind {
             StdKind::Match => b"Match",
             StdKind::Replace => b"Replace",
             StdKind::Sort => b"Sort",
+            StdKind::Find => b"Find",
+            StdKind::Split => b"Split",
+            StdKind::Rewrite => b"Rewrite",
+            StdKind::Glue => b"Glue",
+            StdKind::Where => b"Where",
+        }
+    }
+
+    /// The first version of network files that may name the kind.
+    pub fn since(self) -> u32
+        ensures { result ≡ since self }
+    {
+        match self {
+            StdKind::Find | StdKind::Split | StdKind::Rewrite | StdKind::Glue | StdKind::Where => 3,
+            _ => 1,
         }
     }
 
@@ -357,6 +382,61 @@ fn sort(alloc: Global) -> Result<KindSpec, AllocError>
     kind(alloc, b"Sort", inputs, vec![in alloc; output]?)
 }
 
+fn finding(alloc: Global) -> Result<KindSpec, AllocError>
+    ensures { IfOk result (λ kind. kind ≡ spec_of StdKind.Find) }
+{
+    let pattern = option(alloc, b"PATTERN", PortClass::Pattern)?;
+    let with = optional_option(alloc, b"WITH", PortClass::Template { pattern: 0 })?;
+    let input = stream(alloc, b"IN")?;
+    let output = stream(alloc, b"OUT")?;
+    let inputs = vec![in alloc; pattern, with, input]?;
+    kind(alloc, b"Find", inputs, vec![in alloc; output]?)
+}
+
+fn splitting(alloc: Global) -> Result<KindSpec, AllocError>
+    ensures { IfOk result (λ kind. kind ≡ spec_of StdKind.Split) }
+{
+    let pattern = option(alloc, b"PATTERN", PortClass::Pattern)?;
+    let brackets = optional_option(alloc, b"BRACKETS", PortClass::Whether)?;
+    let input = stream(alloc, b"IN")?;
+    let output = stream(alloc, b"OUT")?;
+    let inputs = vec![in alloc; pattern, brackets, input]?;
+    kind(alloc, b"Split", inputs, vec![in alloc; output]?)
+}
+
+fn rewriting(alloc: Global) -> Result<KindSpec, AllocError>
+    ensures { IfOk result (λ kind. kind ≡ spec_of StdKind.Rewrite) }
+{
+    let pattern = option(alloc, b"PATTERN", PortClass::Pattern)?;
+    let with = option(alloc, b"WITH", PortClass::Template { pattern: 0 })?;
+    let input = stream(alloc, b"IN")?;
+    let output = stream(alloc, b"OUT")?;
+    let rest = optional(alloc, b"REST")?;
+    let inputs = vec![in alloc; pattern, with, input]?;
+    kind(alloc, b"Rewrite", inputs, vec![in alloc; output, rest]?)
+}
+
+fn gluing(alloc: Global) -> Result<KindSpec, AllocError>
+    ensures { IfOk result (λ kind. kind ≡ spec_of StdKind.Glue) }
+{
+    let with = option(alloc, b"WITH", PortClass::Text)?;
+    let input = stream(alloc, b"IN")?;
+    let output = stream(alloc, b"OUT")?;
+    let inputs = vec![in alloc; with, input]?;
+    kind(alloc, b"Glue", inputs, vec![in alloc; output]?)
+}
+
+fn bounding(alloc: Global) -> Result<KindSpec, AllocError>
+    ensures { IfOk result (λ kind. kind ≡ spec_of StdKind.Where) }
+{
+    let bound = option(alloc, b"IS", PortClass::Bound)?;
+    let input = stream(alloc, b"IN")?;
+    let accepted = stream(alloc, b"ACC")?;
+    let others = optional(alloc, b"REJ")?;
+    let inputs = vec![in alloc; bound, input]?;
+    kind(alloc, b"Where", inputs, vec![in alloc; accepted, others]?)
+}
+
 // The row of a kind.
 fn spec(alloc: Global, kind: StdKind) -> Result<KindSpec, AllocError>
     ensures { IfOk result (λ spec. spec ≡ spec_of kind) }
@@ -386,6 +466,11 @@ fn spec(alloc: Global, kind: StdKind) -> Result<KindSpec, AllocError>
         StdKind::Match => matching(alloc),
         StdKind::Replace => replacing(alloc),
         StdKind::Sort => sort(alloc),
+        StdKind::Find => finding(alloc),
+        StdKind::Split => splitting(alloc),
+        StdKind::Rewrite => rewriting(alloc),
+        StdKind::Glue => gluing(alloc),
+        StdKind::Where => bounding(alloc),
     }
 }
 
@@ -396,6 +481,19 @@ pub fn kinds(alloc: Global) -> Result<Vec<KindSpec>, AllocError>
     let mut specs = Vec::new(alloc);
     for kind in &ALL {
         specs.push(spec(alloc, *kind)?)?;
+    }
+    Ok(specs)
+}
+
+/// The part of the table that network files of a version may name.
+pub fn kinds_of(alloc: Global, version: u32) -> Result<Vec<KindSpec>, AllocError>
+    ensures { IfOk result (λ kinds. kinds.items ≡ std_kinds_of version) }
+{
+    let mut specs = Vec::new(alloc);
+    for kind in &ALL {
+        if kind.since() <= version {
+            specs.push(spec(alloc, *kind)?)?;
+        }
     }
     Ok(specs)
 }

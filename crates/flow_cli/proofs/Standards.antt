@@ -149,6 +149,11 @@ standard-at kinds.Tail = (20, refl)
 standard-at kinds.Match = (21, refl)
 standard-at kinds.Replace = (22, refl)
 standard-at kinds.Sort = (23, refl)
+standard-at kinds.Find = (24, refl)
+standard-at kinds.Split = (25, refl)
+standard-at kinds.Rewrite = (26, refl)
+standard-at kinds.Glue = (27, refl)
+standard-at kinds.Where = (28, refl)
 
 -- a standard name is none of the caller's own
 not-both : (own : List KindSpec) (kind : StdKind) (place : ℕ) (mine : KindSpec) → AreOwnKinds own → slice_get own place ≡ Some mine → mine.name ≡ name_of kind → ⊥

@@ -11,7 +11,7 @@ use Rattle.flow_catalogue.specs.declared.standard.Std.TheVariants as components
 use Rattle.flow_catalogue.specs.declared.table.StdKind.{StdKind}
 use Rattle.flow_catalogue.specs.declared.table.StdKind.TheVariants as kinds
 use Rattle.flow_catalogue.specs.Kinds.{name_of}
-use Rattle.flow_catalogue.specs.Components.{read_lines_kind, write_lines_kind, words_kind, fill_kind, brackets_kind, passthru_kind, copy_kind, concat_kind, collate_kind, discard_kind, bundle_kind, unbundle_kind, hoard_kind, count_kind, select_kind, update_kind, match_kind, replace_kind, tally_kind, unique_kind, head_kind, tail_kind, sort_kind}
+use Rattle.flow_catalogue.specs.Components.{read_lines_kind, write_lines_kind, words_kind, fill_kind, brackets_kind, passthru_kind, copy_kind, concat_kind, collate_kind, discard_kind, bundle_kind, unbundle_kind, hoard_kind, count_kind, select_kind, update_kind, match_kind, replace_kind, tally_kind, unique_kind, head_kind, tail_kind, sort_kind, find_kind, split_kind, rewrite_kind, glue_kind, where_kind}
 use Rattle.flow_catalogue.specs.Processes.{Given, given, first_component}
 use Rattle.flow_catalogue.specs.Std.{std_next, StdReady, std_rules}
 use Rattle.flow_model.specs.States.{State}
@@ -47,6 +47,11 @@ told-none (components.Tail state) held level is ready = ready
 told-none (components.Match state) held level is ready = ready
 told-none (components.Replace with) held level is ready = ready
 told-none (components.Sort state) held level is ready = ready
+told-none (components.Find state) held level is ready = ready
+told-none (components.Split state) held level is ready = ready
+told-none (components.Rewrite state) held level is ready = ready
+told-none (components.Glue state) held level is ready = ready
+told-none (components.Where state) held level is ready = ready
 
 -- what a component of a kind comes to is of that kind
 kind-stays : {K : Type 0} (within : K → Std) → ((component : K) → is_balance (within component) ≡ false) → (outcome : Outcome K) → is_balance (component_after (outcome_as within outcome)) ≡ false
@@ -78,6 +83,11 @@ next-stays (components.Tail state) held answer is = kind-stays components.Tail (
 next-stays (components.Match state) held answer is = kind-stays components.Match (λ k. refl) (match_kind.next state held answer)
 next-stays (components.Replace with) held answer is = kind-stays components.Replace (λ k. refl) (replace_kind.next with held answer)
 next-stays (components.Sort state) held answer is = kind-stays components.Sort (λ k. refl) (sort_kind.next state held answer)
+next-stays (components.Find state) held answer is = kind-stays components.Find (λ k. refl) (find_kind.next state held answer)
+next-stays (components.Split state) held answer is = kind-stays components.Split (λ k. refl) (split_kind.next state held answer)
+next-stays (components.Rewrite state) held answer is = kind-stays components.Rewrite (λ k. refl) (rewrite_kind.next state held answer)
+next-stays (components.Glue state) held answer is = kind-stays components.Glue (λ k. refl) (glue_kind.next state held answer)
+next-stays (components.Where state) held answer is = kind-stays components.Where (λ k. refl) (where_kind.next state held answer)
 
 only-balances : OnlyTheseAsk std_rules is_balance
 only-balances = record {

@@ -51,6 +51,11 @@ is_balance (components.Tail state) = false
 is_balance (components.Match state) = false
 is_balance (components.Replace with) = false
 is_balance (components.Sort state) = false
+is_balance (components.Find state) = false
+is_balance (components.Split state) = false
+is_balance (components.Rewrite state) = false
+is_balance (components.Glue state) = false
+is_balance (components.Where state) = false
 
 -- The component of process p of the plan, in its first state, on this file where it reads one.
 pub record IsFirstOf (plan : Plan) (p : ℕ) (component : Std) : Type 0 where

@@ -3,7 +3,7 @@ use crate::kinds::Side;
 use crate::pieces::{is_line_end, is_point, is_remark};
 use crate::said::{Mention, Said, Tag, said_by};
 use flow_limits::LAST_ELEMENT;
-use flow_parse::{FIRST_VERSION, SECOND_VERSION};
+use flow_parse::{FIRST_VERSION, SECOND_VERSION, THIRD_VERSION};
 use flow_text::decimal;
 use std::alloc::{AllocError, Global};
 
@@ -165,11 +165,23 @@ fn is_said(said: &Said<'_>, wanted: &Wanted<'_>) -> bool {
 
 // The version of a file whose first line that is no remark says this. Where that is no header the file is refused for it.
 fn version_of(said: &Said<'_>) -> u32 {
-    if said.tag == Tag::Header && said.name == b"2".as_slice() {
-        SECOND_VERSION
-    } else {
-        FIRST_VERSION
+    match (said.tag, said.name) {
+        (Tag::Header, b"2") => SECOND_VERSION,
+        (Tag::Header, b"3") => THIRD_VERSION,
+        _ => FIRST_VERSION,
     }
+}
+
+/// The version of a network file with these bytes.
+pub fn version_in(alloc: Global, bytes: &[u8]) -> Result<u32, AllocError> {
+    let mut walk = Walk::new();
+    for line in bytes.split(is_line_end) {
+        let _ = walk.next_line(alloc, line)?;
+        if let Some(version) = walk.version {
+            return Ok(version);
+        }
+    }
+    Ok(FIRST_VERSION)
 }
 
 /// A walk over the lines of a file. Its version is told by its first line that is no remark.

@@ -1,5 +1,5 @@
 //! What the table of kinds says of a kind, its ports and their options, in sentences.
-use crate::found::Walk;
+use crate::found::{Walk, version_in};
 use crate::near::nearest;
 use crate::net::Net;
 use crate::pieces::is_line_end;
@@ -7,6 +7,7 @@ use crate::said::Tag;
 use crate::shown::{put_behind, put_between, put_word};
 use flow_items::Text;
 use flow_limits::{FILE_NAME_LIMIT, LAST_ELEMENT};
+use flow_offer::table_of;
 use flow_parse::FIRST_VERSION;
 use flow_plan::{KindSpec, PortClass, PortSpec};
 use std::alloc::{AllocError, Global};
@@ -44,6 +45,16 @@ pub fn other_side(side: Side) -> Side {
         Side::Input => Side::Output,
         Side::Output => Side::Input,
     }
+}
+
+/// The table of kinds for a network file with these bytes, which may name these kinds of the caller's own.
+pub fn table_for(
+    alloc: Global,
+    bytes: &[u8],
+    own: &[KindSpec],
+) -> Result<Vec<KindSpec>, AllocError> {
+    let version = version_in(alloc, bytes)?;
+    table_of(alloc, version, own)
 }
 
 /// The row of a kind in the table.
@@ -222,6 +233,13 @@ pub fn put_option(page: &mut String, name: &Text, class: PortClass) -> Result<()
         ),
         PortClass::File => put_file_rule(page),
         PortClass::Pattern => page.push_str(" is a pattern: a regular expression, in UTF-8.\n"),
+        PortClass::Template { pattern: _ } => page.push_str(
+            " is a template: a text in which $1, ${1} or ${name} stands for what that group of the pattern holds, and $$ for a dollar.\n",
+        ),
+        PortClass::Bound => page.push_str(
+            " is a bound: one of > >= = != < <=, and a number behind it, as > 100.\n",
+        ),
+        PortClass::Whether => page.push_str(" is yes or no.\n"),
         PortClass::Text => page.push_str(" is any text.\n"),
     }
 }
@@ -251,6 +269,9 @@ pub fn put_example(page: &mut String, class: PortClass) -> Result<(), AllocError
         PortClass::Fields => page.push_str("3 5"),
         PortClass::File => page.push_str("in.txt"),
         PortClass::Pattern => page.push_str("^[0-9]+"),
+        PortClass::Template { pattern: _ } => page.push_str("$1"),
+        PortClass::Bound => page.push_str("> 100"),
+        PortClass::Whether => page.push_str("yes"),
         PortClass::Text => page.push_str("TEXT"),
     }
 }

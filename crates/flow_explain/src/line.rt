@@ -2,7 +2,7 @@
 use crate::bytes::{put_bad_byte, put_header};
 use crate::forms::{is_digits, put_forms, slip};
 use crate::found::{Found, Wanted, find, find_in, kind_given, kinded};
-use crate::kinds::is_port_name;
+use crate::kinds::{is_port_name, table_for};
 use crate::near::nearest;
 use crate::net::{Net, put_found};
 use crate::own::OwnKinds;
@@ -12,7 +12,6 @@ use crate::shown::{put_behind, put_between, put_line};
 use flow_limits::{
     CAPACITY_LIMIT, FIRST_CAPACITY_LIMIT, LAST_ELEMENT, NAME_LIMIT, STATEMENT_LIMIT, TEXT_LIMIT,
 };
-use flow_offer::table;
 use flow_parse::{FIRST_VERSION, NetFault, RESERVED, Reason, SECOND_VERSION, is_reserved};
 use flow_text::decimal;
 use std::alloc::{AllocError, Global};
@@ -28,7 +27,7 @@ pub fn put_fault(
     own: OwnKinds<'_>,
     fault: NetFault,
 ) -> Result<(), AllocError> {
-    let table = table(alloc, own.kinds)?;
+    let table = table_for(alloc, bytes, own.kinds)?;
     let net = Net {
         alloc,
         bytes,

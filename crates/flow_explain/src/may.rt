@@ -2,11 +2,10 @@
 ghost use Rattle.flow_offer.specs.Kinds.{AreOwnKinds};
 
 use crate::found::{Found, Walk};
-use crate::kinds::{Side, port, row};
+use crate::kinds::{Side, port, row, table_for};
 use crate::pieces::is_line_end;
 use crate::said::{Mention, Tag};
 use flow_limits::STATEMENT_LIMIT;
-use flow_offer::{own_kinds_make_a_table, table};
 use flow_plan::{KindSpec, PortClass};
 use std::alloc::{AllocError, Global};
 use std::collections::BTreeMap;
@@ -36,8 +35,7 @@ impl<'a> Uses<'a> {
     pub fn of(alloc: Global, net: &'a [u8], own: &[KindSpec]) -> Result<Uses<'a>, AllocError>
         requires { AreOwnKinds own.now }
     {
-        own_kinds_make_a_table();
-        let kinds = table(alloc, own)?;
+        let kinds = table_for(alloc, net, own)?;
         let mut uses = Uses {
             alloc,
             kinds,
@@ -153,6 +151,9 @@ fn put_class(page: &mut String, class: PortClass) -> Result<(), AllocError> {
         ),
         PortClass::File => page.push_str(": the name of a file"),
         PortClass::Pattern => page.push_str(": a pattern"),
+        PortClass::Template { pattern: _ } => page.push_str(": a template"),
+        PortClass::Bound => page.push_str(": a bound, as > 100"),
+        PortClass::Whether => page.push_str(": yes or no"),
         PortClass::Text => page.push_str(": any text"),
     }
 }

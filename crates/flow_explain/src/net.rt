@@ -1,8 +1,9 @@
 //! A network file that is explained, beside the table of kinds.
-use crate::found::{Found, Home, Walk, Wanted, find_in, home_of, is_port, is_same_part, kind_of};
+use crate::found::{
+    Found, Home, Wanted, find_in, home_of, is_port, is_same_part, kind_of, version_in,
+};
 use crate::kinds::{Side, row};
 use crate::own::OwnKinds;
-use crate::pieces::is_line_end;
 use crate::place::{Counted, canonical, fewest, statement};
 use crate::shown::put_line;
 use flow_flat::ExpandFault;
@@ -53,14 +54,7 @@ fn reaches(statement: Option<Found<'_>>, home: &Home<'_>, port: &[u8], side: Sid
 impl<'a> Net<'a> {
     /// The version of the file.
     pub fn version(&self) -> Result<u32, AllocError> {
-        let mut walk = Walk::new();
-        for line in self.bytes.split(is_line_end) {
-            let _ = walk.next_line(self.alloc, line)?;
-            if let Some(version) = walk.version {
-                return Ok(version);
-            }
-        }
-        Ok(1)
+        version_in(self.alloc, self.bytes)
     }
 
     /// The part and the name there of the process with this flat name.

@@ -3,13 +3,12 @@
 ghost use Rattle.flow_offer.specs.Kinds.{AreOwnKinds};
 
 use crate::found::{Found, Walk, Wanted, find_in};
-use crate::kinds::{Side, ports, row};
+use crate::kinds::{Side, ports, row, table_for};
 use crate::net::put_found;
 use crate::pieces::is_line_end;
 use crate::refusal::bytes_of;
 use crate::said::Mention;
 use crate::shown::put_between;
-use flow_offer::{own_kinds_make_a_table, table};
 use flow_plan::{KindSpec, PortSpec};
 use flow_words::{Command, command};
 use std::alloc::{AllocError, Global};
@@ -30,15 +29,24 @@ pub fn put_open<R: Files<File = File> + Eprint + Drop>(
     let Some(Command::Check(name)) = command(alloc, words)? else {
         return Ok(());
     };
-    own_kinds_make_a_table();
-    let kinds = table(alloc, own)?;
     if let Some(text) = filled {
-        return put_lines(alloc, page, text, &kinds);
+        return put_all(alloc, page, text, own);
     }
     match bytes_of(alloc, rt, name) {
-        Some(bytes) => put_lines(alloc, page, &bytes, &kinds),
+        Some(bytes) => put_all(alloc, page, &bytes, own),
         None => Ok(()),
     }
+}
+
+// Tells of a network file, which may name these kinds of the caller's own.
+fn put_all(
+    alloc: Global,
+    page: &mut String,
+    net: &[u8],
+    own: &[KindSpec],
+) -> Result<(), AllocError> {
+    let kinds = table_for(alloc, net, own)?;
+    put_lines(alloc, page, net, &kinds)
 }
 
 // Tells of the processes to which the lines of a network file give a kind.

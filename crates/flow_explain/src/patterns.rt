@@ -6,7 +6,7 @@ use crate::said::{Mention, Tag};
 use crate::shown::put_behind;
 use crate::texts::given_by;
 use flow_limits::PROCESS_LIMIT;
-use flow_pattern::{is_too_large, slip_in};
+use flow_pattern::{is_pattern, is_too_large, slip_in, template_slip_in};
 use std::alloc::{AllocError, Global};
 
 /// The text that a line gives, as it is spelled between its quotes; none where it gives none.
@@ -49,7 +49,28 @@ fn put_slip_in(alloc: Global, page: &mut String, text: &[u8]) -> Result<(), Allo
     }
 }
 
-// Tells why a pattern goes wrong where so much of it is left.
+/// Tells where the text of a line goes wrong as a template for the pattern that another line gives, and why.
+pub fn put_template_slip(
+    alloc: Global,
+    page: &mut String,
+    pattern: &Found<'_>,
+    found: &Found<'_>,
+) -> Result<(), AllocError> {
+    let (Some(pattern), Some(text)) = (spelled(alloc, pattern)?, spelled(alloc, found)?) else {
+        return Ok(());
+    };
+    let pattern = text_of(alloc, pattern)?;
+    let text = text_of(alloc, text)?;
+    if !is_pattern(alloc, &pattern)? {
+        return Ok(());
+    }
+    match template_slip_in(alloc, &pattern, &text)? {
+        Some(slip) => put_wrong(page, behind(&text, slip.place), slip.why),
+        None => Ok(()),
+    }
+}
+
+// Tells why a pattern or a template goes wrong where so much of it is left.
 fn put_wrong(page: &mut String, rest: &[u8], why: &str) -> Result<(), AllocError> {
     page.push_str("It goes wrong ")?;
     put_place(page, rest)?;

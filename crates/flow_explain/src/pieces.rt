@@ -1,6 +1,6 @@
 //! The pieces of a line, for whoever looks for a fault in it. Any bytes have pieces.
 use crate::kinds::{Side, automatic};
-use flow_parse::{FIRST_VERSION, SECOND_VERSION};
+use flow_parse::FIRST_VERSION;
 use std::alloc::{AllocError, Global};
 
 /// A line that is none of the forms is looked at no further: the longest form has fewer pieces.
@@ -15,7 +15,7 @@ pub enum Piece<'a> {
     Close,
     OpenBracket,
     CloseBracket,
-    /// `*IN` or `*OUT`, in a file of version 2.
+    /// `*IN` or `*OUT`, from version 2 on.
     Automatic(Side),
     /// A quoted text as it is spelled between its quotes, or to the line's end where it isn't closed.
     Quoted(&'a [u8]),
@@ -139,7 +139,7 @@ fn cut_sign(version: u32, byte: u8, more: &[u8]) -> (Piece<'_>, &[u8]) {
     match byte {
         b'\'' => quoted(more),
         b'-' => dashed(more),
-        b'*' if version == SECOND_VERSION => starred(more),
+        b'*' if version != FIRST_VERSION => starred(more),
         _ => (sign(byte), more),
     }
 }

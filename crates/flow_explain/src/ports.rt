@@ -4,8 +4,8 @@ use crate::kinds::{
     Side, automatic, is_option, nearest_port, other_side, port, put_example, put_option, put_ports,
 };
 use crate::near::put_nearest;
-use crate::net::{AtFault, Net, put_found};
-use crate::patterns::put_slip;
+use crate::net::{AtFault, Net, put_found, put_if_found};
+use crate::patterns::{put_slip, put_template_slip};
 use crate::shown::{put_between, put_word};
 use flow_flat::ExpandFault;
 use flow_plan::{KindSpec, PortClass, PortRef, PortSpec};
@@ -221,10 +221,47 @@ pub fn put_bad_option(
 ) -> Result<(), AllocError> {
     let home = net.home(process)?;
     let wrong = name.name.as_slice();
+    if let Some(kind) = net.row(&home)? {
+        if let Some((option, pattern)) = template_of(kind, wrong) {
+            return put_bad_template(net, page, &home, option, pattern);
+        }
+    }
     let shown = net.put_statement(page, fault, &home, wrong, Side::Input)?;
     match input(net, &home, wrong)? {
         Some(option) => put_bad_text(net, page, option, shown.statement),
         None => Ok(()),
+    }
+}
+
+// The port of this name, where it is one for templates, and the port of its pattern.
+fn template_of<'a>(kind: &'a KindSpec, name: &[u8]) -> Option<(&'a PortSpec, &'a PortSpec)> {
+    let option = port(kind, Side::Input, name)?;
+    let PortClass::Template { pattern } = option.class else {
+        return None;
+    };
+    let pattern = kind.inputs.as_slice().get(pattern as usize)?;
+    Some((option, pattern))
+}
+
+// A text that is no template for its pattern, which is told of a whole network and not of a statement: so its line and that of the pattern are
+// shown.
+fn put_bad_template<'a>(
+    net: Net<'a>,
+    page: &mut String,
+    home: &Home<'a>,
+    option: &PortSpec,
+    pattern: &PortSpec,
+) -> Result<(), AllocError> {
+    let wanted = Wanted::Port(Side::Input, home.process, option.name.as_slice());
+    let found = net.find(home, &wanted)?;
+    put_if_found(page, found)?;
+    let wanted = Wanted::Port(Side::Input, home.process, pattern.name.as_slice());
+    let with = net.find(home, &wanted)?;
+    put_if_found(page, with)?;
+    put_option(page, &option.name, option.class)?;
+    match (with, found) {
+        (Some(with), Some(found)) => put_template_slip(net.alloc, page, &with, &found),
+        _ => Ok(()),
     }
 }
 

@@ -11,7 +11,7 @@ use flow_expand::{ExpandStop, expand};
 use flow_files::FileShelf;
 use flow_flat::ExpandFault;
 use flow_limits::FILE_LIMIT;
-use flow_offer::{own_kinds_make_a_table, table};
+use flow_offer::{own_kinds_make_a_table_of_each_version, table_of};
 use flow_parse::{NetFault, NetText, ParseStop, Reason, parse};
 use flow_plan::{KindSpec, Plan};
 use flow_text::{Shelf, read_all};
@@ -146,8 +146,8 @@ pub fn open_network(alloc: Global, net: &[u8], own: OwnKinds<'_>) -> Result<Open
 fn open_text(alloc: Global, text: &NetText, own: OwnKinds<'_>) -> Result<Opened, AllocError>
     requires { IsNetText text.now }
 {
-    own_kinds_make_a_table();
-    let kinds = table(alloc, own.kinds)?;
+    own_kinds_make_a_table_of_each_version();
+    let kinds = table_of(alloc, text.version, own.kinds)?;
     match expand(alloc, text, kinds) {
         Ok(plan) => Ok(Opened::Plan(plan)),
         Err(ExpandStop::Fault(fault)) => Ok(Opened::Network(fault)),

@@ -1,7 +1,7 @@
 //! A network that is refused: which line is at fault, and what would be right there.
 use crate::found::{Found, Wanted, find_in};
 use crate::inside::met_again;
-use crate::kinds::{names, put_names};
+use crate::kinds::{names, put_names, table_for};
 use crate::near::{nearest, put_nearest};
 use crate::net::{Net, put_if_found};
 use crate::outer::put_outer_port;
@@ -16,7 +16,6 @@ use flow_limits::{
     SUBNET_PROCESS_LIMIT,
 };
 use flow_net::{Many, PlanFault};
-use flow_offer::table;
 use std::alloc::{AllocError, Global};
 
 /// Explains the fault of a network.
@@ -27,7 +26,7 @@ pub fn put_refused(
     own: OwnKinds<'_>,
     fault: &ExpandFault,
 ) -> Result<(), AllocError> {
-    let table = table(alloc, own.kinds)?;
+    let table = table_for(alloc, bytes, own.kinds)?;
     let net = Net {
         alloc,
         bytes,

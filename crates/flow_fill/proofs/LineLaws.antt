@@ -16,7 +16,7 @@ use Rattle.flow_fill.specs.declared.word.FileWord.{FileWord}
 use Rattle.flow_fill.specs.declared.fault.FillFault.{FillFault}
 use Rattle.flow_fill.specs.declared.fault.FillFault.TheVariants.{Twice, Unknown, Unspelled}
 use Rattle.flow_fill.specs.Reading.{behind_blanks, behind_word, behind_arrow, beside_at, or_all, quoted_at, quoted_here, text_from, in_front, word_at, word_line, word_line_of, use_line, is_remark, is_header}
-use Rattle.flow_fill.specs.Filling.{filled_line, filled_lines, given_text, head_line, initial_line, is_third, or_else, place_after, text_for, text_of, texted_line, used_line, worded_line}
+use Rattle.flow_fill.specs.Filling.{filled_line, filled_lines, given_text, initial_line, is_third, or_else, place_after, text_for, text_of, texted_line, used_line, worded_line}
 use Rattle.flow_fill.specs.Faults.{fault_in, fault_of, first_of, given_fault, is_given, is_known, missing}
 use Rattle.std.specs.Str.Lines.{lines}
 use Rattle.flow_fill.proofs.TextLaws.{InLine, in_line_append, in_line_drop, lines_in_line, text_lines}
@@ -143,15 +143,8 @@ worded_in_line given line None g all w = used_in_line line (use_line line) all
 worded_in_line given line (Some word) g all w =
     texted_in_line line (text_for given word.name word.beside) word.rest all (else_in_line (given_text given word.name) word.beside (given_in_line given word.name g) w.0) w.1
 
-head_in_line : (line : List ℕ) → InLine line → InLine (head_line line)
-head_in_line line all = by (is_remark line) (is_header line) where
-  by : (v w : Bool) → InLine (cond v line (cond w (codes "flow 2") line))
-  by true w = all
-  by false true = (λ e. omega arith, (λ e. omega arith, (λ e. omega arith, (λ e. omega arith, (λ e. omega arith, (λ e. omega arith, tt))))))
-  by false false = all
-
 filled_in_line : (place : Place) (given : List Given) (line : List ℕ) → GivenInLine given → InLine line → InLine (filled_line place given line)
-filled_in_line Head given line g all = head_in_line line all
+filled_in_line Head given line g all = all
 filled_in_line Main given line g all = worded_in_line given line (word_line line) g all (word_in_line line all)
 filled_in_line Inside given line g all = all
 filled_in_line Other given line g all = all
@@ -196,7 +189,7 @@ pub another_version : (given : List Given) (lines : List (List ℕ)) → is_thir
 another_version given [] other = refl
 another_version given (line ∷ more) other = by (is_remark line) (is_header line) (another_version given more) other where
   by : (v w : Bool) → (is_third more ≡ false → filled_lines Head given more ≡ more) → cond v (is_third more) w ≡ false
-      → cond v line (cond w (codes "flow 2") line) ∷ filled_lines (cond v Head (cond w Main Other)) given more ≡ line ∷ more
+      → line ∷ filled_lines (cond v Head (cond w Main Other)) given more ≡ line ∷ more
   by true w again o = ap (λ (l : List (List ℕ)). line ∷ l) (again o)
   by false true again o = absurd cc
   by false false again o = ap (λ (l : List (List ℕ)). line ∷ l) (other_same given more)

@@ -1,4 +1,4 @@
--- What is left of version 3 in a filled file: nothing.
+-- What is left of version 3 in a filled file: its header, and no word.
 use Rattle.std.proofs.Common.{◌≡◌, ℕ, ◌+◌, suc, take, Bool, true, false, cond, List, [], ◌∷◌, ◌++◌, length, Option, Some, None, refl, sym, ap, ◌∙◌}
 use Rattle.std.specs.Prelude.{codes, is_none, option_and_then, option_map}
 use Rattle.std.specs.List.{AllByRecursion, position, position_from, prefix_len}
@@ -15,7 +15,7 @@ use Rattle.flow_fill.specs.declared.word.FileWord.{FileWord}
 use Rattle.flow_fill.specs.declared.fault.FillFault.{FillFault}
 use Rattle.flow_fill.specs.declared.fault.FillFault.TheVariants.{NoText}
 use Rattle.flow_fill.specs.Reading.{alone, begins_remark, begins_with, behind_blanks, behind_word, beside_at, is_header, is_remark, quoted_at, use_line, word_at, word_line, word_line_of}
-use Rattle.flow_fill.specs.Filling.{filled_line, filled_lines, head_line, is_third, place_after, texted_line, text_for, used_line, word_of, worded_line, words_from, words_in}
+use Rattle.flow_fill.specs.Filling.{filled_line, filled_lines, is_third, place_after, texted_line, text_for, used_line, word_of, worded_line, words_from, words_in}
 use Rattle.flow_fill.specs.Faults.{is_textless, missing}
 use Rattle.flow_fill.specs.Laws.{AFilledFileHasNoWords, LinesKeepTheirPlaces, OtherLinesStay}
 
@@ -27,18 +27,11 @@ kept place given (line ∷ more) = ap suc (kept (place_after place line) given m
 pub lines_kept : LinesKeepTheirPlaces
 lines_kept given lines = kept Head given lines
 
-head_stays : (line : List ℕ) → is_header line ≡ false → head_line line ≡ line
-head_stays line none = by (is_remark line) (is_header line) none where
-  by : (v w : Bool) → w ≡ false → cond v line (cond w (codes "flow 2") line) ≡ line
-  by true w n = refl
-  by false true n = absurd cc
-  by false false n = refl
-
-stays : (place : Place) (given : List Given) (line : List ℕ) → is_header line ≡ false → word_line line ≡ None → use_line line ≡ None → filled_line place given line ≡ line
-stays Head given line header word file = head_stays line header
-stays Main given line header word file = ap (worded_line given line) word ∙ ap (used_line line) file
-stays Inside given line header word file = refl
-stays Other given line header word file = refl
+stays : (place : Place) (given : List Given) (line : List ℕ) → word_line line ≡ None → use_line line ≡ None → filled_line place given line ≡ line
+stays Head given line word file = refl
+stays Main given line word file = ap (worded_line given line) word ∙ ap (used_line line) file
+stays Inside given line word file = refl
+stays Other given line word file = refl
 
 -- Other lines stay.
 pub others_stay : OtherLinesStay
@@ -130,37 +123,19 @@ main_done given n m false (line ∷ more) all =
       by true e in_it out a = in_it a
       by false e in_it out a = out a
 
-remark_run : (rest : List ℕ) → begins_remark rest ≡ true → take (prefix_len is_word_byte rest) rest ≡ []
-remark_run [] is = refl
-remark_run (b ∷ bs) is = ap (λ (n : ℕ). take (prefix_len is_word_byte (n ∷ bs)) (n ∷ bs)) (eqb-true b 35 is)
-
--- A remark has no word in front, so it is no word's line and begins no subnet.
-remark_done : (line : List ℕ) → is_remark line ≡ true → (word_line line ≡ None) × (begins_with (codes "subnet") line ≡ false)
-remark_done line is =
-    let none : (word_at line).0 ≡ [] = remark_run (behind_blanks line) is in
-    let no_line : behind_word (codes "inport") line ≡ None = ap (λ (w : List ℕ). cond (bytes_eq w (codes "inport")) (Some (word_at line).1) None) none in
-    (ap (option_and_then (λ behind. word_line_of (word_at behind).0 (beside_at (word_at behind).1).0 (beside_at (word_at behind).1).1)) no_line, ap (λ (w : List ℕ). bytes_eq w (codes "subnet")) none)
-
--- The lines from the head on, filled, as lines of a main part and as those of a file.
-abbrev IsLeft : List Given → List (List ℕ) → Type 0
-IsLeft given lines = ((m : ℕ) → words_from m Main (filled_lines Head given lines) ≡ []) × (is_third (filled_lines Head given lines) ≡ false)
-
-head_done : (given : List Given) (n : ℕ) (lines : List (List ℕ)) → is_third lines ≡ true → AllTexted given (words_from n Head lines) → IsLeft given lines
-head_done given n [] third all = absurd cc
-head_done given n (line ∷ more) third all = by (is_remark line) refl (is_header line) (head_done given (suc n) more) third all where
-  by : (v : Bool) → is_remark line ≡ v → (w : Bool) → (is_third more ≡ true → AllTexted given (words_from (suc n) Head more) → IsLeft given more) → cond v (is_third more) w ≡ true
+-- From the head on the filled lines have no word, and the header stays.
+head_done : (given : List Given) (n m : ℕ) (lines : List (List ℕ)) → is_third lines ≡ true → AllTexted given (words_from n Head lines)
+    → (words_from m Head (filled_lines Head given lines) ≡ []) × (is_third (filled_lines Head given lines) ≡ true)
+head_done given n m [] third all = absurd cc
+head_done given n m (line ∷ more) third all = by (is_remark line) (is_header line) (head_done given (suc n) (suc m) more) (main_done given (suc n) (suc m) false more) third all where
+  by : (v w : Bool) → (is_third more ≡ true → AllTexted given (words_from (suc n) Head more) → (words_from (suc m) Head (filled_lines Head given more) ≡ []) × (is_third (filled_lines Head given more) ≡ true))
+      → (AllTexted given (words_from (suc n) Main more) → words_from (suc m) Main (filled_lines Main given more) ≡ []) → cond v (is_third more) w ≡ true
       → AllTexted given (words_from (suc n) (cond v Head (cond w Main Other)) more)
-      → ((m : ℕ) → words_from m Main (cond v line (cond w (codes "flow 2") line) ∷ filled_lines (cond v Head (cond w Main Other)) given more) ≡ [])
-      × (is_third (cond v line (cond w (codes "flow 2") line) ∷ filled_lines (cond v Head (cond w Main Other)) given more) ≡ false)
-  by true e w again t a =
-      let done = remark_done line e in
-      let left = again t a in (
-        λ m. ap (λ (x : Option WordLine). word_of m x ++ words_from (suc m) (place_after Main line) (filled_lines Head given more)) done.0 ∙ ap (λ (v : Bool). words_from (suc m) (cond v Inside Main) (filled_lines Head given more)) done.1 ∙ left.0 (suc m),
-        ap (λ (v : Bool). cond v (is_third (filled_lines Head given more)) (is_header line)) e ∙ left.1,
-      )
-  by false e true again t a = (λ m. main_done given (suc n) (suc m) false more a, refl)
-  by false e false again t a = absurd cc
+      → (words_from (suc m) (cond v Head (cond w Main Other)) (filled_lines (cond v Head (cond w Main Other)) given more) ≡ []) × (cond v (is_third (filled_lines Head given more)) w ≡ true)
+  by true w again main t a = again t a
+  by false true again main t a = (main a, refl)
+  by false false again main t a = absurd cc
 
--- Nothing of version 3 is left.
+-- No word is left, and the version stays.
 pub no_words : AFilledFileHasNoWords
-no_words given lines third none = let left = head_done given 1 lines third (all_texted given (words_in lines) none) in (left.0 1, left.1)
+no_words given lines third none = head_done given 1 1 lines third (all_texted given (words_in lines) none)

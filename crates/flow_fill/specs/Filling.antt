@@ -1,4 +1,4 @@
--- A file of version 3 with texts for its words, as a file of version 2.
+-- A file of version 3 with texts for its words, as one without words.
 use Rattle.std.specs.Prelude.{ℕ, suc, List, [], ◌∷◌, ◌++◌, length, Option, Some, None, Bool, false, ◌==◌, ◌-◌, slice_index, if◌then◌else◌, find, codes, option_map}
 use Rattle.std.specs.List.{flat_map}
 use Rattle.std.specs.Str.{bytes_eq}
@@ -59,13 +59,9 @@ worded_line given line (Some w) = texted_line line (text_for given w.name w.besi
 abbrev pub main_line : List Given → List ℕ → List ℕ
 main_line given line = worded_line given line (word_line line)
 
--- What a line becomes that stands where no line before it says something: the header of version 3 that of version 2.
-abbrev pub head_line : List ℕ → List ℕ
-head_line line = if is_remark line then line else (if is_header line then codes "flow 2" else line)
-
--- What a line becomes where it stands. Lines of subnets stay, and so do those of a file of another version.
+-- What a line becomes where it stands. The header stays, and so do lines of subnets and those of a file of another version.
 abbrev pub filled_line : Place → List Given → List ℕ → List ℕ
-filled_line Head given line = head_line line
+filled_line Head given line = line
 filled_line Main given line = main_line given line
 filled_line Inside given line = line
 filled_line Other given line = line

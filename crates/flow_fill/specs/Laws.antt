@@ -5,15 +5,15 @@ use Rattle.flow_parse.specs.declared.token.Token.TheVariants.{Word, Arrow, Quote
 use Rattle.flow_parse.specs.declared.form.Mention.{Mention}
 use Rattle.flow_parse.specs.declared.form.PortMention.{PortMention}
 use Rattle.flow_parse.specs.declared.form.Form.TheVariants.{Initial, InPort}
-use Rattle.flow_parse.specs.declared.value.TheConstants.{SECOND_VERSION}
+use Rattle.flow_parse.specs.declared.value.TheConstants.{THIRD_VERSION}
 use Rattle.flow_parse.specs.Spelling.{IsRow}
 use Rattle.flow_parse.specs.Files.{LineIs, says}
 use Rattle.flow_parse.specs.Names.{is_name}
 use Rattle.flow_fill.specs.declared.place.Place.{Place}
 use Rattle.flow_fill.specs.declared.place.Place.TheVariants.{Head, Main, Inside}
 use Rattle.flow_fill.specs.declared.word.Given.{Given}
-use Rattle.flow_fill.specs.Reading.{is_header, use_line, word_line}
-use Rattle.flow_fill.specs.Filling.{filled_line, filled_lines, is_third, text_for, words_from, words_in}
+use Rattle.flow_fill.specs.Reading.{use_line, word_line}
+use Rattle.flow_fill.specs.Filling.{filled_line, filled_lines, is_third, text_for, words_in}
 use Rattle.flow_fill.specs.Faults.{missing}
 
 -- A text beside a word, as a row of tokens.
@@ -27,23 +27,23 @@ word_row word beside row = Word (codes "inport") ∷ Word word ∷ quoted beside
 
 -- A line of the main part that is such a row becomes the text of its word, an arrow, and what follows.
 abbrev pub AWordsLineBecomesItsText : Type 0
-AWordsLineBecomesItsText = (given : List Given) (line word : List ℕ) (beside : Option (List ℕ)) (row : List Token) (text : List ℕ) → IsRow SECOND_VERSION line (word_row word beside row) → is_name word ≡ true
-    → text_for given word beside ≡ Some text → IsRow SECOND_VERSION (filled_line Main given line) (Quoted text ∷ Arrow ∷ row)
+AWordsLineBecomesItsText = (given : List Given) (line word : List ℕ) (beside : Option (List ℕ)) (row : List Token) (text : List ℕ) → IsRow THIRD_VERSION line (word_row word beside row) → is_name word ≡ true
+    → text_for given word beside ≡ Some text → IsRow THIRD_VERSION (filled_line Main given line) (Quoted text ∷ Arrow ∷ row)
 
 -- A line that says an outer input, as subnets have them, says in the main part the text of its word at the same port.
 abbrev pub AnOuterInputBecomesAText : Type 0
-AnOuterInputBecomesAText = (given : List Given) (line word : List ℕ) (into : PortMention) (to : Mention) (text : List ℕ) → LineIs SECOND_VERSION line (says (InPort word into to)) → is_name word ≡ true
-    → text_for given word None ≡ Some text → LineIs SECOND_VERSION (filled_line Main given line) (says (Initial text into to))
+AnOuterInputBecomesAText = (given : List Given) (line word : List ℕ) (into : PortMention) (to : Mention) (text : List ℕ) → LineIs THIRD_VERSION line (says (InPort word into to)) → is_name word ≡ true
+    → text_for given word None ≡ Some text → LineIs THIRD_VERSION (filled_line Main given line) (says (Initial text into to))
 
--- Any other line stays, wherever it stands, unless it is the header or a `use` line; and each line of a subnet stays.
+-- Any other line stays, wherever it stands, unless it is a `use` line; and each line of a subnet stays.
 abbrev pub OtherLinesStay : Type 0
-OtherLinesStay = (place : Place) (given : List Given) (line : List ℕ) → (is_header line ≡ false → word_line line ≡ None → use_line line ≡ None → filled_line place given line ≡ line) × (filled_line Inside given line ≡ line)
+OtherLinesStay = (place : Place) (given : List Given) (line : List ℕ) → (word_line line ≡ None → use_line line ≡ None → filled_line place given line ≡ line) × (filled_line Inside given line ≡ line)
 
 -- Filling keeps the lines at their places.
 abbrev pub LinesKeepTheirPlaces : Type 0
 LinesKeepTheirPlaces = (given : List Given) (lines : List (List ℕ)) → length (filled_lines Head given lines) ≡ length lines
 
--- A filled file of version 3 whose words all have texts has no word outside of its subnets, and is no file of version 3.
+-- A filled file of version 3 whose words all have texts has no word, and its version stays.
 abbrev pub AFilledFileHasNoWords : Type 0
 AFilledFileHasNoWords = (given : List Given) (lines : List (List ℕ)) → is_third lines ≡ true → missing given (words_in lines) ≡ None
-    → (words_from 1 Main (filled_lines Head given lines) ≡ []) × (is_third (filled_lines Head given lines) ≡ false)
+    → (words_in (filled_lines Head given lines) ≡ []) × (is_third (filled_lines Head given lines) ≡ true)

@@ -21,7 +21,7 @@ pub fn lines_keep_their_places()
     ensures { LinesKeepTheirPlaces }
 {}
 
-/// Nothing of version 3 is left.
+/// No word of a file of version 3 is left, and its version stays.
 pub fn a_filled_file_has_no_words()
     ensures { AFilledFileHasNoWords }
 {}

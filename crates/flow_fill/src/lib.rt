@@ -1,5 +1,5 @@
-//! Words of a network: how a network file of version 3, with texts for the words of its main part, is the text of a file of version 2. All
-//! else speaks of that text. The contracts are those of `fill` and `words_of`, and laws say what a filled text is.
+//! Words of a network: how a network file of version 3, with texts for the words of its main part, is the text of a file without words, whose lines
+//! are as in version 2. All else speaks of that text. The contracts are those of `fill` and `words_of`, and laws say what a filled text is.
 #![tactic(auto)]
 
 mod check;

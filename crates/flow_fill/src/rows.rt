@@ -3,7 +3,7 @@ ghost use Rattle.std.specs.Prelude.{◌≡◌, ◌≤◌, [], ◌∷◌, ◌++�
 ghost use Rattle.flow_parse.specs.Spelling.{doubled};
 ghost use Rattle.flow_fill.specs.Faults.{IsTooLong};
 ghost use Rattle.flow_fill.specs.Reading.{use_line};
-ghost use Rattle.flow_fill.specs.Filling.{ended, filled_line, filled_lines, given_text, head_line, initial_line, is_third, main_line, used_line, place_after, text_for, text_of, word_here, words_from, words_in};
+ghost use Rattle.flow_fill.specs.Filling.{ended, filled_line, filled_lines, given_text, initial_line, is_third, main_line, used_line, place_after, text_for, text_of, word_here, words_from, words_in};
 
 use crate::line::WordLine;
 use crate::place::Place;
@@ -143,18 +143,6 @@ fn fill_main(alloc: Global, given: &[Given], line: &[u8]) -> Result<Vec<u8>, All
     }
 }
 
-fn fill_head(alloc: Global, line: &[u8]) -> Result<Vec<u8>, AllocError>
-    ensures { IfOk result (λ filled. filled.items ≡ head_line line.now) }
-{
-    if remark(line) {
-        return line.to_vec(alloc);
-    }
-    if header(line) {
-        return Vec::from_slice(alloc, b"flow 2");
-    }
-    line.to_vec(alloc)
-}
-
 fn fill_line(
     alloc: Global,
     place: Place,
@@ -164,7 +152,7 @@ fn fill_line(
     ensures { IfOk result (λ filled. filled.items ≡ filled_line place given.now line.now) }
 {
     match place {
-        Place::Head => fill_head(alloc, line),
+        Place::Head => line.to_vec(alloc),
         Place::Main => fill_main(alloc, given, line),
         Place::Inside => line.to_vec(alloc),
         Place::Other => line.to_vec(alloc),

@@ -67,7 +67,7 @@ fn filled(
     Ok(made)
 }
 
-/// The text of version 2 that a network file is with these texts for its words. A file of another version stays as it is. The format is this project's own.
+/// The text that a network file is with these texts for its words: of version 3 one without words, and with lines as version 2 has them. A file of another version stays as it is. The format is this project's own.
 pub fn fill(alloc: Global, text: &[u8], given: &[Given]) -> Result<Vec<u8>, FillStop>
     // There is a text exactly where there is no fault; and line for line it is what the file says with these texts.
     ensures sound { IfOk result (λ _. fault_in (words_in (lines_of text.now)) given.now ≡ None) }

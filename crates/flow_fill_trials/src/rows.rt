@@ -23,38 +23,38 @@ const ROWS: [FillRow; 13] = [
     FillRow {
         net: "flow 3\ninport LOG -> FILE Read(ReadLines)\n",
         given: &[("LOG", "access.log")],
-        wanted: Wanted::Text("flow 2\n'access.log' -> FILE Read(ReadLines)\n"),
+        wanted: Wanted::Text("flow 3\n'access.log' -> FILE Read(ReadLines)\n"),
     },
     // A text beside the word stands where none is given, and no longer where one is.
     FillRow {
         net: "flow 3\ninport SIZE '40' -> SIZE F\n",
         given: &[],
-        wanted: Wanted::Text("flow 2\n'40' -> SIZE F\n"),
+        wanted: Wanted::Text("flow 3\n'40' -> SIZE F\n"),
     },
     FillRow {
         net: "flow 3\ninport SIZE '40' -> SIZE F\n",
         given: &[("SIZE", "7")],
-        wanted: Wanted::Text("flow 2\n'7' -> SIZE F\n"),
+        wanted: Wanted::Text("flow 3\n'7' -> SIZE F\n"),
     },
     // One word leads to two ports; a quote is doubled; blanks before the word are gone, and those behind the arrow stay.
     FillRow {
         net: "flow 3\n  inport A->  X P\n\tinport  A  -> Y[2] Q\n",
         given: &[("A", "it's")],
-        wanted: Wanted::Text("flow 2\n'it''s' ->  X P\n'it''s' -> Y[2] Q\n"),
+        wanted: Wanted::Text("flow 3\n'it''s' ->  X P\n'it''s' -> Y[2] Q\n"),
     },
     // An outer input of a subnet stays one, and so do the lines round it.
     FillRow {
         net: "# r\n\nflow  3 \nsubnet S\ninport A -> IN P(K)\nend\ninport A -> IN Q(S)\nQ OUT -> IN W",
         given: &[("A", "x")],
         wanted: Wanted::Text(
-            "# r\n\nflow 2\nsubnet S\ninport A -> IN P(K)\nend\n'x' -> IN Q(S)\nQ OUT -> IN W\n",
+            "# r\n\nflow 3\nsubnet S\ninport A -> IN P(K)\nend\n'x' -> IN Q(S)\nQ OUT -> IN W\n",
         ),
     },
     // What is no word's line by its name or its arrow stays, and the file of a `use` leaves an empty line.
     FillRow {
         net: "flow 3\ninport 2A -> X P\ninport A X P\nuse 'letters.flow'\nuse letters\n",
         given: &[],
-        wanted: Wanted::Text("flow 2\ninport 2A -> X P\ninport A X P\n\nuse letters\n"),
+        wanted: Wanted::Text("flow 3\ninport 2A -> X P\ninport A X P\n\nuse letters\n"),
     },
     // A file of another version stays to the byte.
     FillRow {
@@ -66,7 +66,7 @@ const ROWS: [FillRow; 13] = [
     FillRow {
         net: "flow 3\ninport A -> X P\n",
         given: &[("A", "")],
-        wanted: Wanted::Text("flow 2\n'' -> X P\n"),
+        wanted: Wanted::Text("flow 3\n'' -> X P\n"),
     },
     FillRow {
         net: "flow 3\ninport B 'b' -> X P\ninport A -> X P\n",

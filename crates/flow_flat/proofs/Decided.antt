@@ -15,10 +15,15 @@ use Rattle.flow_net.specs.declared.fault.PlanFault.{PlanFault}
 use Rattle.flow_net.specs.declared.fault.PlanFault.TheVariants.{BadOption}
 use Rattle.flow_plan.specs.declared.kind.KindSpec.{KindSpec}
 use Rattle.flow_plan.specs.declared.kind.PortClass.{PortClass}
-use Rattle.flow_plan.specs.declared.kind.PortClass.TheVariants.{Stream, Number, Fields, File, Pattern, Text}
+use Rattle.flow_plan.specs.declared.kind.PortClass.TheVariants.{Stream, Number, Fields, File, Pattern, Template, Bound, Whether, Text}
 use Rattle.flow_plan.specs.declared.kind.PortRef.{PortRef}
 use Rattle.flow_plan.specs.Network.{Network}
 use Rattle.flow_plan.specs.Texts.{IsNumberWithin, IsOfClass}
+use Rattle.flow_decimal.specs.declared.bound.Bound.{Bound as NumberBound}
+use Rattle.flow_decimal.specs.declared.bound.BoundStop.{BoundStop}
+use Rattle.flow_decimal.specs.Bounds.{bound_reading}
+use Rattle.std.specs.Str.{bytes_eq}
+use Rattle.std.proofs.lemmas.Slice.Eq.{bytes_eq-Decides}
 use Rattle.flow_net.proofs.Places.{same_or_not}
 use Rattle.flow_parse.specs.declared.value.Statement.TheVariants.{Connect, Initial, InPort, OutPort}
 use Rattle.flow_parse.specs.declared.value.NetPart.{NetPart}
@@ -57,6 +62,21 @@ dec_if : {P Q : Type 0} → Dec P → Dec Q → Dec (P → Q)
 dec_if p (inl q) = inl (λ x. q)
 dec_if (inl p) (inr nq) = inr (λ f. nq (f p))
 dec_if (inr np) (inr nq) = inl (λ x. absurd (np x))
+
+dec_or : {P Q : Type 0} → Dec P → Dec Q → Dec (P ⊎ Q)
+dec_or (inl p) q = inl (inl p)
+dec_or (inr np) (inl q) = inl (inr q)
+dec_or (inr np) (inr nq) = inr (λ either. elim either [ inl p ↦ np p | inr q ↦ nq q ])
+
+dec_bytes : (text other : List ℕ) → Dec (text ≡ other)
+dec_bytes text other = by (bytes_eq text other) refl where
+  by : (b : Bool) → bytes_eq text other ≡ b → Dec (text ≡ other)
+  by true e = inl ((bytes_eq-Decides text other).0 e)
+  by false e = inr (λ same. false≢true (sym e ∙ (bytes_eq-Decides text other).1 same))
+
+dec_bound : (read : Result NumberBound BoundStop) → Dec ((bound : NumberBound) × (read ≡ Ok bound))
+dec_bound (Ok bound) = inl (bound, refl)
+dec_bound (Err stop) = inr (λ is. let none : Err stop ≡ Ok is.0 = is.1 in cc)
 
 dec_le : (m n : ℕ) → Dec (m ≤ n)
 dec_le m n = by (nat_le m n) refl where
@@ -107,6 +127,9 @@ dec_class (Number least most) text = dec_number least most text
 dec_class Fields text = dec_and (dec_le (length (slice_split (λ b. b == 32) text)) 8) (dec_all (IsNumberWithin 1 255) (dec_number 1 255) (slice_split (λ b. b == 32) text))
 dec_class File text = dec_and4 (dec_le 1 (length text)) (dec_le (length text) 255) (dec_utf8 text) (dec_all (λ b. b ≢ 0) (λ b. dec_not (same_or_not b 0)) text)
 dec_class Pattern text = dec_and3 (dec_le (length text) PATTERN_LIMIT) (dec_utf8 text) (dec_some_and (reading text) (λ found. found.0.depth ≤ pattern_options.nest_limit) (λ found. dec_le found.0.depth pattern_options.nest_limit))
+dec_class (Template pattern) text = inl tt
+dec_class Bound text = dec_bound (bound_reading text)
+dec_class Whether text = dec_or (dec_bytes text (codes "yes")) (dec_bytes text (codes "no"))
 dec_class Text text = inl tt
 
 dec_fits : (o : Option PortAt) (text : List ℕ) → Dec (FitsAt o text)

@@ -16,6 +16,8 @@ use Rattle.flow_net.specs.Drafts.{◌>>=◌, refused_if}
 use Rattle.flow_net.specs.Calls.{kind_named, allowed_capacity, same_capacity}
 use Rattle.flow_net.specs.Kinds.{takes_texts}
 use Rattle.flow_plan.specs.Texts.{IsOfClass}
+use Rattle.flow_plan.specs.Templates.{TemplateGiven, FirstUnfit, TemplatesFit}
+use Rattle.flow_net.specs.Finishes.{unfit_fault}
 use Rattle.flow_parse.specs.declared.value.Statement.{Statement}
 use Rattle.flow_parse.specs.declared.value.Statement.TheVariants.{Connect, Initial, InPort, OutPort}
 use Rattle.flow_parse.specs.declared.value.NetPart.{NetPart}
@@ -133,13 +135,15 @@ text_ends kinds text =
 abbrev pub PortPasses : List KindSpec → NetPart → List PortAt → PortAt → Result (Unit {0}) PlanFault → Type 0
 PortPasses kinds text before port outcome = port_test text.processes (text_ends kinds text) before port ≡ outcome
 
--- A flat text has this fault: the first of its processes, or of its statements where no process has one, or of its ports, or the sum.
+-- A flat text has this fault: the first of its processes, or of its statements where no process has one, or of its ports, or the sum, or of a template.
 pub data HasFault (kinds : List KindSpec) (text : NetPart) (fault : PlanFault) : Type 0 where
   of_process : FirstFails (ProcessPasses kinds) text.processes fault → HasFault kinds text fault
   of_statement : AllPass (ProcessPasses kinds) text.processes → FirstFails (StatementPasses kinds text) text.statements fault → HasFault kinds text fault
   of_port : AllPass (ProcessPasses kinds) text.processes → AllPass (StatementPasses kinds text) text.statements → FirstFails (PortPasses kinds text) (text_ports kinds text.processes) fault → HasFault kinds text fault
   of_sum : AllPass (ProcessPasses kinds) text.processes → AllPass (StatementPasses kinds text) text.statements → AllPass (PortPasses kinds text) (text_ports kinds text.processes)
       → sum_test (plan_of kinds text).connections ≡ Err fault → HasFault kinds text fault
+  of_template : AllPass (ProcessPasses kinds) text.processes → AllPass (StatementPasses kinds text) text.statements → AllPass (PortPasses kinds text) (text_ports kinds text.processes)
+      → sum_test (plan_of kinds text).connections ≡ Ok tt → (template : TemplateGiven) → FirstUnfit (plan_of kinds text) template → fault ≡ unfit_fault template → HasFault kinds text fault
 
 -- A flat text has no fault, and is this plan.
 pub record HasPlan (kinds : List KindSpec) (text : NetPart) (plan : Network) : Type 0 where
@@ -147,6 +151,7 @@ pub record HasPlan (kinds : List KindSpec) (text : NetPart) (plan : Network) : T
   pub statements : AllPass (StatementPasses kinds text) text.statements
   pub ports : AllPass (PortPasses kinds text) (text_ports kinds text.processes)
   pub sum : sum_test (plan_of kinds text).connections ≡ Ok tt
+  pub templates : TemplatesFit (plan_of kinds text)
   pub is : plan ≡ plan_of kinds text
 
 -- What a flat text comes to: its plan, or the first fault.

@@ -10,6 +10,8 @@ use Rattle.flow_net.specs.declared.fault.PlanFault.TheVariants.{UnknownKind, Too
 use Rattle.flow_plan.specs.declared.kind.KindSpec.{KindSpec}
 use Rattle.flow_plan.specs.Network.{Network}
 use Rattle.flow_net.specs.Calls.{kind_named}
+use Rattle.flow_net.specs.Finishes.{unfit_fault}
+use Rattle.flow_plan.specs.Templates.{TemplateGiven, FirstUnfit, TemplatesFit}
 use Rattle.flow_parse.specs.declared.value.Statement.{Statement}
 use Rattle.flow_parse.specs.declared.value.Statement.TheVariants.{InPort, OutPort}
 use Rattle.flow_parse.specs.declared.value.NetPart.{NetPart}
@@ -124,7 +126,7 @@ pub record IsSaid (kinds : List KindSpec) (text : NetText) : Type 0 where
   pub processes : CanBeWrittenOut kinds text
   pub statements : AllPass (MeaningPasses kinds text) (all_statements text)
 
--- A text has this fault: the first of its subnets, else of its processes, its statements, its ports, or the sum.
+-- A text has this fault: the first of its subnets, else of its processes, its statements, its ports, the sum, or its templates.
 pub data HasTextFault (kinds : List KindSpec) (text : NetText) (fault : ExpandFault) : Type 0 where
   of_subnet : FirstFails RecursionPasses (deep_instances text) fault → HasTextFault kinds text fault
   of_process : AllPass RecursionPasses (deep_instances text) → FirstFails (InstancePasses text kinds) (all_instances text) fault → HasTextFault kinds text fault
@@ -132,12 +134,15 @@ pub data HasTextFault (kinds : List KindSpec) (text : NetText) (fault : ExpandFa
   of_port : IsSaid kinds text → (cause : PlanFault) → fault ≡ faults.Plan cause → FirstFails (PortPasses kinds (flat_of text)) (text_ports kinds (flat_of text).processes) cause → HasTextFault kinds text fault
   of_sum : IsSaid kinds text → AllPass (PortPasses kinds (flat_of text)) (text_ports kinds (flat_of text).processes)
       → (cause : PlanFault) → fault ≡ faults.Plan cause → sum_test (plan_of kinds (flat_of text)).connections ≡ Err cause → HasTextFault kinds text fault
+  of_template : IsSaid kinds text → AllPass (PortPasses kinds (flat_of text)) (text_ports kinds (flat_of text).processes) → sum_test (plan_of kinds (flat_of text)).connections ≡ Ok tt
+      → (template : TemplateGiven) → fault ≡ faults.Plan (unfit_fault template) → FirstUnfit (plan_of kinds (flat_of text)) template → HasTextFault kinds text fault
 
 -- A text has no fault, and is this plan.
 pub record HasTextPlan (kinds : List KindSpec) (text : NetText) (plan : Network) : Type 0 where
   pub said : IsSaid kinds text
   pub ports : AllPass (PortPasses kinds (flat_of text)) (text_ports kinds (flat_of text).processes)
   pub sum : sum_test (plan_of kinds (flat_of text)).connections ≡ Ok tt
+  pub templates : TemplatesFit (plan_of kinds (flat_of text))
   pub is : plan ≡ plan_of kinds (flat_of text)
 
 -- What a text comes to: its plan, or its first fault.

@@ -11,7 +11,7 @@ use Rattle.flow_plan.specs.Network.{Network}
 use Rattle.flow_net.specs.Drafts.{Draft, ◌>>=◌}
 use Rattle.flow_net.specs.Calls.{after_process, after_connect}
 use Rattle.flow_net.specs.Initials.{AfterInitial}
-use Rattle.flow_net.specs.Finishes.{finished}
+use Rattle.flow_net.specs.Finishes.{FinishesTo}
 use Rattle.flow_parse.specs.declared.value.Statement.{Statement}
 use Rattle.flow_parse.specs.declared.value.Statement.TheVariants.{Connect, Initial, InPort, OutPort}
 use Rattle.flow_parse.specs.declared.value.NetPart.{NetPart}
@@ -63,7 +63,7 @@ IsDraft kinds part outcome =
 
 -- A part is this plan over a table of kinds, or has this fault first: in its processes, in its statements, or in the whole that they make.
 abbrev pub IsFlat : List KindSpec → NetPart → Result Network PlanFault → Type 0
-IsFlat kinds part outcome = (drafted : Result Draft PlanFault) × IsDraft kinds part drafted × (outcome ≡ drafted >>= finished)
+IsFlat kinds part outcome = (drafted : Result Draft PlanFault) × IsDraft kinds part drafted × MatchResult drafted (λ draft. FinishesTo draft outcome) (λ fault. outcome ≡ Err fault)
 
 -- What statements of a text with subnets make of the draft, one after the other, each as it is meant: the first that means nothing, or that the draft refuses, is the outcome.
 abbrev pub AfterMeant : Draft → List (Result Statement ExpandFault) → Result Draft ExpandFault → Type 0

@@ -4,7 +4,7 @@ use Rattle.std.specs.Fmt.{decimal}
 use Rattle.std.specs.List.{flat_map}
 use Rattle.flow_limits.specs.declared.TheConstants.{ELEMENT_LIMIT}
 use Rattle.flow_plan.specs.declared.kind.PortClass.{PortClass}
-use Rattle.flow_plan.specs.declared.kind.PortClass.TheVariants.{Stream, Number, Fields, File, Pattern, Text}
+use Rattle.flow_plan.specs.declared.kind.PortClass.TheVariants.{Stream, Number, Fields, File, Pattern, Template, Bound, Whether, Text}
 use Rattle.flow_plan.specs.declared.kind.PortSpec.{PortSpec}
 use Rattle.flow_plan.specs.declared.kind.KindSpec.{KindSpec}
 use Rattle.flow_catalogue.specs.declared.table.StdKind.{StdKind}
@@ -26,6 +26,9 @@ range_text (Number least most) = codes ": a number from " ++ decimal least ++ co
 range_text Fields = codes ": one to eight numbers from 1 to 255 with one space between two"
 range_text File = codes ": the name of a file"
 range_text Pattern = codes ": a pattern"
+range_text (Template pattern) = codes ": a template"
+range_text Bound = codes ": a bound, as > 100"
+range_text Whether = codes ": yes or no"
 range_text Text = codes ": any text"
 
 -- How many elements a port has, where it is an array.

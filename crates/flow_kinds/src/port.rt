@@ -92,6 +92,9 @@ fn put_range(page: &mut Vec<u8>, class: PortClass) -> Result<(), AllocError>
         ),
         PortClass::File => page.extend_from_slice(b": the name of a file"),
         PortClass::Pattern => page.extend_from_slice(b": a pattern"),
+        PortClass::Template { pattern: _ } => page.extend_from_slice(b": a template"),
+        PortClass::Bound => page.extend_from_slice(b": a bound, as > 100"),
+        PortClass::Whether => page.extend_from_slice(b": yes or no"),
         PortClass::Text => page.extend_from_slice(b": any text"),
     }
 }

@@ -37,6 +37,13 @@ pub fn purpose(kind: StdKind) -> &'static [u8]
         StdKind::Replace => b"replaces each match of PATTERN by the text WITH",
         StdKind::Sort =>
             b"sorts the packets between two brackets by text, or by the bytes of FIELDS",
+        StdKind::Find => b"sends each match of PATTERN, or what WITH makes of it, in version 3",
+        StdKind::Split => b"sends the texts between the matches of PATTERN, in version 3",
+        StdKind::Rewrite =>
+            b"replaces each match of PATTERN by what WITH makes of it, in version 3",
+        StdKind::Glue =>
+            b"makes one text of those between two brackets, with WITH between, in version 3",
+        StdKind::Where => b"accepts numbers for which IS holds, and rejects the rest, in version 3",
     }
 }
 

@@ -15,21 +15,22 @@ use Rattle.flow_flat.specs.declared.fault.ExpandFault.{ExpandFault}
 use Rattle.flow_flat.specs.Texts.{TextComesTo}
 use Rattle.flow_flat.specs.Laws.{FileComesToNetwork}
 use Rattle.flow_flat.proofs.Files.{file_once}
-use Rattle.flow_catalogue.specs.Kinds.{std_kinds}
+use Rattle.flow_catalogue.specs.Kinds.{std_kinds_of}
 use Rattle.flow_load.specs.Made.{OnlyFirstReads}
 use Rattle.flow_load.proofs.MadePlan.{reader, others, made_plan, comes}
 use Rattle.flow_load.proofs.MadeValue.{made_value, spelled}
+use Rattle.flow_load.proofs.Networks.{one-text}
 
 -- The text comes to its plan and to nothing else.
-pub only_outcome : (outcome : Result (Result Network ExpandFault) NetFault) → FileComesToNetwork std_kinds (text_of network_lines) outcome → outcome ≡ Ok (Ok made_plan)
-only_outcome outcome is = file_once std_kinds (text_of network_lines) outcome (Ok (Ok made_plan)) is (made_value, spelled, comes)
+pub only_outcome : (outcome : Result (Result Network ExpandFault) NetFault) → FileComesToNetwork (std_kinds_of 1) (text_of network_lines) outcome → outcome ≡ Ok (Ok made_plan)
+only_outcome outcome is = file_once (std_kinds_of 1) (text_of network_lines) outcome (Ok (Ok made_plan)) is (made_value, spelled, comes)
 
 same_plan : (one other : Network) → ◌≡◌ {A = Result (Result Network ExpandFault) NetFault} (Ok (Ok one)) (Ok (Ok other)) → one ≡ other
 same_plan one other same = cc
 
 -- A plan of a value that the text spells is this one.
-pub only_plan : (text : NetText) (plan : Network) → Spells (text_of network_lines) text → TextComesTo std_kinds text (Ok plan) → plan ≡ made_plan
-only_plan text plan spells is = same_plan plan made_plan (only_outcome (Ok (Ok plan)) (text, spells, is))
+pub only_plan : (text : NetText) (plan : Network) → Spells (text_of network_lines) text → TextComesTo (std_kinds_of text.version) text (Ok plan) → plan ≡ made_plan
+only_plan text plan spells is = same_plan plan made_plan (only_outcome (Ok (Ok plan)) (made_value, spelled, subst (λ (t : NetText). TextComesTo (std_kinds_of t.version) t (Ok plan)) (one-text (text_of network_lines) text made_value spells spelled) is))
 
 -- The process reads a file.
 abbrev is_reader : Process → Bool
@@ -54,5 +55,5 @@ first_reads : OnlyFirstReads made_plan
 first_reads = record { first = reader; there = refl; kind = refl; file = refl; others = λ p process is. none_reads others refl p process is }
 
 -- In a plan of the text the first process alone reads a file.
-pub reads : (text : NetText) (plan : Network) → Spells (text_of network_lines) text → TextComesTo std_kinds text (Ok plan) → OnlyFirstReads plan
+pub reads : (text : NetText) (plan : Network) → Spells (text_of network_lines) text → TextComesTo (std_kinds_of text.version) text (Ok plan) → OnlyFirstReads plan
 reads text plan spells is = subst (λ (n : Network). OnlyFirstReads n) (sym (only_plan text plan spells is)) first_reads

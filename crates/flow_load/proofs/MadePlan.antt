@@ -20,7 +20,7 @@ use Rattle.flow_flat.specs.Faults.{PortPasses, port_test, text_ends, sum_test}
 use Rattle.flow_flat.specs.Plans.{plan_of}
 use Rattle.flow_flat.specs.Texts.{RecursionPasses, InstancePasses, MeaningPasses, fails_if, instance_test, deep_instances, all_instances, all_statements, TextComesTo}
 use Rattle.flow_flat.specs.Firsts.{AllPass}
-use Rattle.flow_catalogue.specs.Kinds.{std_kinds}
+use Rattle.flow_catalogue.specs.Kinds.{std_kinds_of}
 use Rattle.flow_load.proofs.Passing.{all_pass, all_ok}
 use Rattle.flow_load.proofs.MadeValue.{made_part, made_value}
 
@@ -29,8 +29,8 @@ ends : AllPass RecursionPasses (deep_instances made_value)
 ends = all_ok (λ before x. fails_if (list_any (bytes_eq x.kind) x.inside) (faults.Recursive x.kind)) (deep_instances made_value) refl
 
 -- Each process is of a kind of the table.
-instances : AllPass (InstancePasses made_value std_kinds) (all_instances made_value)
-instances = all_ok (instance_test made_value std_kinds) (all_instances made_value) refl
+instances : AllPass (InstancePasses made_value (std_kinds_of 1)) (all_instances made_value)
+instances = all_ok (instance_test made_value (std_kinds_of 1)) (all_instances made_value) refl
 
 -- Each text that is given to a port is of its class.
 in_file : IsFileName (codes "in")
@@ -71,17 +71,17 @@ abbrev at : ℕ → End
 at place = record { port = place; element = 0 }
 
 -- Each statement may follow those before it.
-statements : AllPass (MeaningPasses std_kinds made_value) (all_statements made_value)
-statements = all_pass (MeaningPasses std_kinds made_value) (all_statements made_value) (
+statements : AllPass (MeaningPasses (std_kinds_of 1) made_value) (all_statements made_value)
+statements = all_pass (MeaningPasses (std_kinds_of 1) made_value) (all_statements made_value) (
   (at 0, refl, in_file),
   (refl, (refl, (refl, (refl, (refl, ((at 12, refl, twenty), ((at 17, refl, sixty), (refl, (refl, (refl, ((at 27, refl, file_a), ((at 31, refl, file_b), ((at 35, refl, file_c), tt))))))))))))),
 )
 
 -- Each port is bound as it has to be.
-ports : AllPass (PortPasses std_kinds made_part) (text_ports std_kinds made_part.processes)
-ports = all_ok (port_test made_part.processes (text_ends std_kinds made_part)) (text_ports std_kinds made_part.processes) refl
+ports : AllPass (PortPasses (std_kinds_of 1) made_part) (text_ports (std_kinds_of 1) made_part.processes)
+ports = all_ok (port_test made_part.processes (text_ends (std_kinds_of 1) made_part)) (text_ports (std_kinds_of 1) made_part.processes) refl
 
-sum : sum_test (plan_of std_kinds made_part).connections ≡ Ok tt
+sum : sum_test (plan_of (std_kinds_of 1) made_part).connections ≡ Ok tt
 sum = refl
 
 -- A port that has to be bound, and isn't an array.
@@ -137,9 +137,9 @@ made_plan = record {
       ∷ [];
 }
 
-planned : made_plan ≡ plan_of std_kinds made_part
+planned : made_plan ≡ plan_of (std_kinds_of 1) made_part
 planned = refl
 
 -- The value comes to this plan.
-pub comes : TextComesTo std_kinds made_value (Ok made_plan)
+pub comes : TextComesTo (std_kinds_of 1) made_value (Ok made_plan)
 comes = record { said = record { processes = record { ends = ends; processes = instances }; statements = statements }; ports = ports; sum = sum; is = planned }

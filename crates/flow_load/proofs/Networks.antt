@@ -8,14 +8,14 @@ use Rattle.flow_parse.proofs.OneOutcome.{one_outcome}
 use Rattle.flow_flat.specs.Texts.{TextComesTo}
 use Rattle.flow_flat.proofs.TextOnce.{text_once}
 use Rattle.flow_plan.specs.declared.kind.KindSpec.{KindSpec}
-use Rattle.flow_offer.specs.Kinds.{table_with}
+use Rattle.flow_offer.specs.Kinds.{table_of}
 use Rattle.flow_load.specs.Networks.{Holds, RefusedFor, ReadsAs}
 use Rattle.flow_load.specs.declared.stop.Stop.{Stop}
 use Rattle.flow_load.specs.declared.stop.Stop.TheVariants.{Words, Refused, NoPart, JournalRefused, TapesRefused, ReadFault, WriteFault, TooLong, NoMemory}
 use Rattle.flow_load.specs.declared.stop.NetRefusal.{NetRefusal}
 use Rattle.flow_load.specs.declared.stop.NetRefusal.TheVariants as refusals
 
-one-text : (net : List ℕ) (a b : NetText) → Spells net a → Spells net b → a ≡ b
+pub one-text : (net : List ℕ) (a b : NetText) → Spells net a → Spells net b → a ≡ b
 one-text net a b is other = let same = one_outcome 1 None (lines net) (Ok a) (Ok b) is other in cc
 
 -- bytes that hold a network aren't refused
@@ -23,16 +23,16 @@ pub holds-or-refused : (own : List KindSpec) (net : List ℕ) (text : NetText) (
 holds-or-refused own net text plan (refusals.Line fault) holds refused = let same = one_outcome 1 None (lines net) (Ok text) (Err fault) holds.spelled refused in cc
 holds-or-refused own net text plan (refusals.Network fault) holds refused =
     let same = one-text net refused.0 text refused.1 holds.spelled in
-    let comes = subst (λ (t : NetText). TextComesTo (table_with own) t (Err fault)) same refused.2 in
-    let both = text_once (table_with own) text (Ok plan) (Err fault) holds.comes comes in
+    let comes = subst (λ (t : NetText). TextComesTo (table_of t.version own) t (Err fault)) same refused.2 in
+    let both = text_once (table_of text.version own) text (Ok plan) (Err fault) holds.comes comes in
     cc
 
 -- They hold one plan.
 pub one-plan : (own : List KindSpec) (net : List ℕ) (a b : NetText) (plan other : Network) → Holds own net a plan → Holds own net b other → plan ≡ other
 one-plan own net a b plan other holds is =
     let same = one-text net b a is.spelled holds.spelled in
-    let comes = subst (λ (t : NetText). TextComesTo (table_with own) t (Ok other)) same is.comes in
-    let both = text_once (table_with own) a (Ok plan) (Ok other) holds.comes comes in
+    let comes = subst (λ (t : NetText). TextComesTo (table_of t.version own) t (Ok other)) same is.comes in
+    let both = text_once (table_of a.version own) a (Ok plan) (Ok other) holds.comes comes in
     cc
 
 -- Bytes that hold a network are refused for nothing.

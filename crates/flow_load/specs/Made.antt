@@ -7,19 +7,20 @@ use Rattle.flow_plan.specs.declared.plan.Process.{Process}
 use Rattle.flow_plan.specs.Network.{Network}
 use Rattle.flow_parse.specs.declared.fault.NetFault.{NetFault}
 use Rattle.flow_parse.specs.declared.value.NetText.{NetText}
+use Rattle.flow_parse.specs.declared.value.TheConstants.{FIRST_VERSION}
 use Rattle.flow_parse.specs.Files.{Spells}
 use Rattle.flow_flat.specs.declared.fault.ExpandFault.{ExpandFault}
 use Rattle.flow_flat.specs.Texts.{TextComesTo}
 use Rattle.flow_flat.specs.Laws.{FileComesToNetwork}
-use Rattle.flow_catalogue.specs.Kinds.{std_kinds}
+use Rattle.flow_catalogue.specs.Kinds.{std_kinds_of}
 
--- The text spells a value, which has a plan over the standard kinds.
+-- The text spells a value, which has a plan over the standard kinds that a file of its version may name.
 abbrev pub HasPlan : Type 0
-HasPlan = (text : NetText) × ((plan : Network) × Spells (text_of network_lines) text × TextComesTo std_kinds text (Ok plan))
+HasPlan = (text : NetText) × ((plan : Network) × Spells (text_of network_lines) text × TextComesTo (std_kinds_of text.version) text (Ok plan))
 
--- Whatever the text comes to, it is a plan: no line of it has a fault, and its network has none.
+-- Whatever the text, which is of the first version, comes to, it is a plan: no line of it has a fault, and its network has none.
 abbrev pub IsNeverRefused : Type 0
-IsNeverRefused = (outcome : Result (Result Network ExpandFault) NetFault) → FileComesToNetwork std_kinds (text_of network_lines) outcome → (plan : Network) × (outcome ≡ Ok (Ok plan))
+IsNeverRefused = (outcome : Result (Result Network ExpandFault) NetFault) → FileComesToNetwork (std_kinds_of FIRST_VERSION) (text_of network_lines) outcome → (plan : Network) × (outcome ≡ Ok (Ok plan))
 
 -- Of the processes of a plan the first reads the file `in`, and no other reads a file.
 pub record OnlyFirstReads (plan : Network) : Type 0 where
@@ -31,4 +32,4 @@ pub record OnlyFirstReads (plan : Network) : Type 0 where
 
 -- This holds of the plan of the text.
 abbrev pub ReadsItsInput : Type 0
-ReadsItsInput = (text : NetText) (plan : Network) → Spells (text_of network_lines) text → TextComesTo std_kinds text (Ok plan) → OnlyFirstReads plan
+ReadsItsInput = (text : NetText) (plan : Network) → Spells (text_of network_lines) text → TextComesTo (std_kinds_of text.version) text (Ok plan) → OnlyFirstReads plan

@@ -22,6 +22,9 @@ use Rattle.flow_meanings.proofs.UpdateKind.{update-facts}
 use Rattle.flow_meanings.proofs.MatchKinds.{match-facts, replace-facts}
 use Rattle.flow_meanings.proofs.PickKinds.{unique-facts, head-facts, tail-facts}
 use Rattle.flow_meanings.proofs.SortKind.{sort-facts}
+use Rattle.flow_meanings.proofs.FindKinds.{find-facts, split-facts, rewrite-facts}
+use Rattle.flow_meanings.proofs.GlueKind.{glue-facts}
+use Rattle.flow_meanings.proofs.WhereKind.{where-facts}
 
 -- The facts of each standard component.
 pub facts-of : (component : Std) → Facts component
@@ -49,6 +52,11 @@ facts-of (components.Tail state) = tail-facts state
 facts-of (components.Match state) = match-facts state
 facts-of (components.Replace with) = replace-facts with
 facts-of (components.Sort state) = sort-facts state
+facts-of (components.Find component) = find-facts component
+facts-of (components.Split component) = split-facts component
+facts-of (components.Rewrite component) = rewrite-facts component
+facts-of (components.Glue component) = glue-facts component
+facts-of (components.Where state) = where-facts state
 
 -- a text of fields has one at least
 some-fields : (text : List ℕ) → 1 ≤ length (fields_of text)
@@ -64,6 +72,7 @@ first-first kinds.Discard given file = tt
 first-first kinds.Hoard given file = tt
 first-first kinds.Match given file = tt
 first-first kinds.Replace given file = tt
+first-first kinds.Where given file = tt
 first-first kind given file = refl
 
 -- the component of a process in its first state is so by its meaning too

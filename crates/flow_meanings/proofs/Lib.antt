@@ -9,6 +9,9 @@ pub mod UpdateKind
 pub mod MatchKinds
 pub mod PickKinds
 pub mod SortKind
+pub mod FindKinds
+pub mod GlueKind
+pub mod WhereKind
 pub mod Every
 pub mod Contents
 pub mod Owns

@@ -62,7 +62,7 @@ parts-on true connected component held id = λ d. cc
 parts-on false connected component held id = leaves-on connected component held id
 
 -- A component that picks has heard the end of its input once it has run and ended.
-picker-hears : {K : Type 0} (picker : Picker K) → StaysConnected picker → (component : K) (told : List Happening) → EndedRun (picker_rules picker) component told → told ≢ [] → HeardEnd 0 told
+pub picker-hears : {K : Type 0} (picker : Picker K) → StaysConnected picker → (component : K) (told : List Happening) → EndedRun (picker_rules picker) component told → told ≢ [] → HeardEnd 0 told
 picker-hears {K} picker stays component told run some =
     end-heard {K = K} (picker_rules picker) (λ _. refl) (picker_lawful picker stays) Never
     (λ p q s l. elim l [ inl d ↦ subst GoesOn (sym s.comes_to) (λ e. cc) d | inr n ↦ n ])

@@ -40,6 +40,16 @@ use Rattle.flow_batch.specs.Updated.{fresh_update, IsUpdated}
 use Rattle.flow_pattern.specs.Pattern.{Replacement}
 use Rattle.flow_match.specs.Match.{MatchState}
 use Rattle.flow_match.specs.Meanings.{IsMatched, rewritten}
+use Rattle.flow_map.specs.Mapping.{Mapped, waiting}
+use Rattle.flow_find.specs.Find.{finds}
+use Rattle.flow_find.specs.Split.{Splitting, splits}
+use Rattle.flow_find.specs.Rewrite.{Rewriting, rewrites, rejects}
+use Rattle.flow_fold.specs.declared.folder.Stretch.TheVariants.{Bare}
+use Rattle.flow_fold.specs.Folding.{Folded, beginning}
+use Rattle.flow_fold.specs.Made.{made_of}
+use Rattle.flow_fold.specs.Glue.{GluedState, glue_folding, glue_folded}
+use Rattle.flow_where.specs.Where.{WhereState}
+use Rattle.flow_where.specs.Meanings.{IsParted as IsWithinBound}
 use Rattle.flow_catalogue.specs.declared.standard.Std.{Std}
 use Rattle.flow_catalogue.specs.declared.standard.Std.TheVariants as components
 use Rattle.flow_meanings.specs.Meaning.{Meaning}
@@ -146,6 +156,31 @@ tail_meaning state = record { first = state ≡ fresh_tail state.count state.res
 abbrev pub sort_meaning : SortState → Meaning
 sort_meaning state = record { first = state ≡ fresh_sort state.bytes; loops = true; settled = true; makes = λ wrote x y. y 0 ≡ sorted_stretches state.bytes (x 0) }
 
+-- A Find sends its input with each Normal packet replaced by what its template makes of the matches in it.
+abbrev pub find_meaning : Mapped Replacement → Meaning
+find_meaning component = record { first = component ≡ waiting component.own; loops = true; settled = true; makes = λ wrote x y. y 0 ≡ flat_map (finds component.own) (x 0) }
+
+-- A Split sends its input with each Normal packet replaced by the texts between the matches in it.
+abbrev pub split_meaning : Mapped Splitting → Meaning
+split_meaning component = record { first = component ≡ waiting component.own; loops = true; settled = true; makes = λ wrote x y. y 0 ≡ flat_map (splits component.own) (x 0) }
+
+-- A Rewrite sends its input with the Normal packets in which its pattern matches rewritten, and the others to its second output, where that is connected.
+abbrev pub rewrite_meaning : Mapped Rewriting → Meaning
+rewrite_meaning component = record {
+  first = component ≡ waiting component.own;
+  loops = true;
+  settled = true;
+  makes = λ wrote x y. (y 0 ≡ flat_map (rewrites component.own) (x 0)) × (y 1 ≡ flat_map (rejects component.own) (x 0));
+}
+
+-- A Glue sends its input with the texts of each stretch as one.
+abbrev pub glue_meaning : Folded (List ℕ) GluedState → Meaning
+glue_meaning component = record { first = component ≡ beginning glue_folding component.kind Bare; loops = true; settled = true; makes = λ wrote x y. y 0 ≡ made_of (glue_folded component.kind) (x 0) }
+
+-- A Where sends the packets whose number is within its bound, and to its second output, where that is connected, the others.
+abbrev pub where_meaning : WhereState → Meaning
+where_meaning state = record { first = Unit {0}; loops = true; settled = true; makes = λ wrote x y. IsWithinBound state.bound state.rejects (x 0) (y 0) (y 1) }
+
 -- What a standard component means.
 abbrev pub meaning_of : Std → Meaning
 meaning_of (components.ReadLines left) = read_lines_meaning left
@@ -172,3 +207,8 @@ meaning_of (components.Tail state) = tail_meaning state
 meaning_of (components.Match state) = match_meaning state
 meaning_of (components.Replace with) = replace_meaning with
 meaning_of (components.Sort state) = sort_meaning state
+meaning_of (components.Find component) = find_meaning component
+meaning_of (components.Split component) = split_meaning component
+meaning_of (components.Rewrite component) = rewrite_meaning component
+meaning_of (components.Glue component) = glue_meaning component
+meaning_of (components.Where state) = where_meaning state

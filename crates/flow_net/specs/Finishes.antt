@@ -1,8 +1,8 @@
 -- What is wrong with a draft that is to be a plan, and the plan that it is.
 use Rattle.flow_limits.specs.declared.TheConstants.{CAPACITY_SUM_LIMIT, DEFAULT_CAPACITY}
-use Rattle.std.specs.Prelude.{ℕ, ◌+◌, ◌-◌, ◌==◌, nat_le, if◌then◌else◌, Bool, true, false, List, [], ◌∷◌, map, take, length, Option, Some, None, Ok, Err, slice_get, position, unwrap_or}
+use Rattle.std.specs.Prelude.{◌≡◌, ◌⊎◌, ◌++◌, ℕ, ◌+◌, ◌-◌, ◌==◌, nat_le, if◌then◌else◌, Bool, true, false, List, [], ◌∷◌, map, take, length, Option, Some, None, Ok, Err, slice_get, position, unwrap_or}
 use Rattle.std.specs.declared.result.Result.{Result}
-use Rattle.std.specs.List.{sum_by}
+use Rattle.std.specs.List.{All, sum_by}
 use Rattle.std.specs.Option.{option_map_or}
 use Rattle.flow_net.specs.declared.draft.End.{End}
 use Rattle.flow_net.specs.declared.draft.Binding.{Binding}
@@ -11,13 +11,16 @@ use Rattle.flow_net.specs.declared.draft.DraftProcess.{DraftProcess}
 use Rattle.flow_net.specs.declared.draft.Link.{Link}
 use Rattle.flow_net.specs.declared.fault.Many.TheVariants as many
 use Rattle.flow_net.specs.declared.fault.PlanFault.{PlanFault}
-use Rattle.flow_net.specs.declared.fault.PlanFault.TheVariants.{PortMissing, ElementGap, TooMany}
+use Rattle.flow_net.specs.declared.fault.PlanFault.TheVariants.{BadOption, PortMissing, ElementGap, TooMany}
+use Rattle.flow_net.specs.declared.fault.PlanStop.{PlanStop}
+use Rattle.flow_net.specs.declared.fault.PlanStop.TheVariants.{Fault, NoMemory}
 use Rattle.flow_plan.specs.declared.plan.Sender.{Sender}
 use Rattle.flow_plan.specs.declared.plan.Process.{Process}
 use Rattle.flow_plan.specs.declared.plan.Connection.{Connection}
 use Rattle.flow_plan.specs.declared.plan.PortRow.{PortRow}
 use Rattle.flow_plan.specs.declared.plan.PortTable.{PortTable}
 use Rattle.flow_plan.specs.Network.{Network, is_stream}
+use Rattle.flow_plan.specs.Templates.{TemplateGiven, Fits, FirstUnfit, TemplatesFit, template_of, templates_in, templates_among}
 use Rattle.flow_net.specs.Drafts.{Draft, ◌>>=◌, refused_if, is_free, is_side, is_stream_at}
 use Rattle.flow_net.specs.Calls.{process_at}
 
@@ -146,8 +149,33 @@ draft_fault draft = do
   ports ← first_fault draft.processes draft.ports
   sum_fault draft.links
 
--- What finishing gives: the plan, or the first fault.
-abbrev pub finished : Draft → Result Network PlanFault
-finished draft = do
-  whole ← draft_fault draft
-  Ok (plan_of draft)
+-- The fault of a text that isn't a template for its pattern.
+abbrev pub unfit_fault : TemplateGiven → PlanFault
+unfit_fault template = BadOption template.process (record { name = template.port; element = None })
+
+-- Each of these is one for its pattern, or this is the fault of the first that isn't.
+abbrev pub Checked : List TemplateGiven → Result (Unit {0}) PlanStop → Type 0
+Checked given (Ok _) = All Fits given
+Checked given (Err (Fault fault)) = (before behind : List TemplateGiven) × (template : TemplateGiven) × (given ≡ before ++ template ∷ behind) × All Fits before × (Fits template → ⊥) × (fault ≡ unfit_fault template)
+Checked given (Err NoMemory) = Unit {0}
+
+-- So of the port in a row at this place, of the ports in rows, and of processes with their tables.
+abbrev pub RowHasTemplate : Process → ℕ → PortRow → Result (Unit {0}) PlanStop → Type 0
+RowHasTemplate process place row outcome = Checked (template_of process place row.spec.name row.spec.class) outcome
+
+abbrev pub RowsHaveTemplates : Process → List PortRow → Result (Unit {0}) PlanStop → Type 0
+RowsHaveTemplates process rows outcome = Checked (templates_in process 0 rows) outcome
+
+abbrev pub HaveTemplates : List Process → List PortTable → Result (Unit {0}) PlanStop → Type 0
+HaveTemplates processes tables outcome = Checked (templates_among processes tables) outcome
+
+-- What finishing gives: the first fault of the whole draft; else that of the first template that isn't one for its pattern; else the plan.
+abbrev pub FinishesTo : Draft → Result Network PlanFault → Type 0
+FinishesTo draft (Ok plan) = (draft_fault draft ≡ Ok tt) × TemplatesFit (plan_of draft) × (plan ≡ plan_of draft)
+FinishesTo draft (Err fault) = (draft_fault draft ≡ Err fault) ⊎ ((draft_fault draft ≡ Ok tt) × (template : TemplateGiven) × FirstUnfit (plan_of draft) template × (fault ≡ unfit_fault template))
+
+-- The same, unless memory runs out.
+abbrev pub Finishes : Draft → Result Network PlanStop → Type 0
+Finishes draft (Ok plan) = FinishesTo draft (Ok plan)
+Finishes draft (Err (Fault fault)) = FinishesTo draft (Err fault)
+Finishes draft (Err NoMemory) = Unit {0}

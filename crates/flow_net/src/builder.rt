@@ -3,7 +3,7 @@ ghost use Rattle.std.specs.Prelude.{◌≡◌, ◌≤◌, [], length, IsTrue, If
 ghost use Rattle.flow_net.specs.Drafts.{Answers, Becomes};
 ghost use Rattle.flow_net.specs.Calls.{after_process, after_connect};
 ghost use Rattle.flow_net.specs.Initials.{AfterInitial};
-ghost use Rattle.flow_net.specs.Finishes.{finished};
+ghost use Rattle.flow_net.specs.Finishes.{Finishes};
 ghost use Rattle.flow_net.specs.Kinds.{is_table};
 ghost use Rattle.flow_plan.specs.Valid.{IsValid};
 ghost use Rattle.flow_net.specs.Over.{IsOver};
@@ -11,7 +11,7 @@ ghost use Rattle.flow_net.specs.Over.{IsOver};
 use crate::counted::Counted;
 use crate::draft::{DraftPort, DraftProcess, Link};
 use crate::fault::{PlanFault, PlanStop};
-use crate::{begin, check, find, finish, give, join, lay, options};
+use crate::{begin, check, find, finish, give, join, lay, options, templates};
 use flow_items::Text;
 use flow_limits::TEXT_LIMIT;
 use flow_plan::{KindSpec, Plan, PortRef};
@@ -138,9 +138,10 @@ impl PlanBuilder {
     }
 
     /// The plan that the calls described: the processes in their order, the connections in the order in
-    /// which their inputs were first connected, and the senders in the order of the calls.
+    /// which their inputs were first connected, and the senders in the order of the calls. That each template is one for its
+    /// pattern is seen last, as the two texts may come in either order.
     pub fn finish(self) -> Result<Plan, PlanStop>
-        ensures plan { Answers (finished self) result }
+        ensures plan { Finishes self result }
         ensures valid { IfOk result IsValid }
         ensures over { IfOk result (IsOver self.kinds) }
     {
@@ -160,6 +161,7 @@ impl PlanBuilder {
         let connections = finish::connections(alloc, draft, links)?;
         let tables = lay::tables(alloc, ports, begun.as_slice())?;
         let processes = lay::processes(alloc, draft, begun)?;
+        templates::check_templates(alloc, processes.as_slice(), tables.as_slice())?;
         Ok(Plan::new(processes, connections, tables))
     }
 }

@@ -15,6 +15,7 @@ mod give;
 mod join;
 mod lay;
 mod options;
+mod templates;
 
 pub use builder::PlanBuilder;
 pub use fault::{Many, PlanFault, PlanStop};

@@ -1,10 +1,11 @@
 //! The texts that option ports take.
 ghost use Rattle.std.specs.Prelude.{◌≡◌, ◌≢◌, ◌≤◌, ◌==◌, ◌+◌, ◌<◌, ◌↔◌, length, IsTrue, count_by, position, IfOk, ◌∷◌, [], IfSome, IfNone, slice_get};
 ghost use Rattle.std.specs.List.{All, slice_split};
-ghost use Rattle.flow_plan.specs.Texts.{IsNumberWithin, IsFields, IsFileName, IsOfClass};
+ghost use Rattle.flow_plan.specs.Texts.{IsNumberWithin, IsFields, IsFileName, IsBound, IsWhether, IsOfClass};
 ghost use Rattle.flow_net.specs.Options.{FitsPort};
 
 use crate::draft::{DraftPort, End};
+use flow_decimal::Bound;
 use flow_limits::FILE_NAME_LIMIT;
 use flow_pattern::is_pattern;
 use flow_plan::PortClass;
@@ -76,6 +77,18 @@ fn is_file_name(text: &[u8]) -> bool
         && has_no_zero(text)
 }
 
+fn is_bound(text: &[u8]) -> bool
+    ensures { IsTrue result ↔ IsBound text.now }
+{
+    Bound::parse(text).is_ok()
+}
+
+fn is_whether(text: &[u8]) -> bool
+    ensures { IsTrue result ↔ IsWhether text.now }
+{
+    text == b"yes".as_slice() || text == b"no".as_slice()
+}
+
 fn is_of_class(alloc: Global, class: PortClass, text: &[u8]) -> Result<bool, AllocError>
     ensures { IfOk result (λ is. IsTrue is ↔ IsOfClass class text.now) }
 {
@@ -85,6 +98,9 @@ fn is_of_class(alloc: Global, class: PortClass, text: &[u8]) -> Result<bool, All
         PortClass::Fields => Ok(is_fields(text)),
         PortClass::File => Ok(is_file_name(text)),
         PortClass::Pattern => is_pattern(alloc, text),
+        PortClass::Template { pattern: _ } => Ok(true),
+        PortClass::Bound => Ok(is_bound(text)),
+        PortClass::Whether => Ok(is_whether(text)),
         PortClass::Text => Ok(true),
     }
 }

@@ -1,5 +1,6 @@
 mod Lists
 mod Tables
+mod Versions
 pub mod Owns
 mod Fitting
 mod Parts

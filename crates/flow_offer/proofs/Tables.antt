@@ -30,7 +30,7 @@ own-kind kind inputs outputs few different =
     (both (list_all is_input kind.inputs) (list_all is_needed_array kind.outputs) (all-weaker is_own_input is_input own-input kind.inputs inputs) (all-weaker is_own_output is_needed_array own-output kind.outputs outputs))
     (both (has_few_ports kind) (has_different_ports kind) few different)
 
-own-kinds : (own : List KindSpec) → list_all has_own_inputs own ≡ true → list_all has_own_outputs own ≡ true → list_all has_few_ports own ≡ true → list_all has_different_ports own ≡ true → list_all is_kind own ≡ true
+pub own-kinds : (own : List KindSpec) → list_all has_own_inputs own ≡ true → list_all has_own_outputs own ≡ true → list_all has_few_ports own ≡ true → list_all has_different_ports own ≡ true → list_all is_kind own ≡ true
 own-kinds [] inputs outputs few different = refl
 own-kinds (kind ∷ own) inputs outputs few different =
     let i = and_true (has_own_inputs kind) (list_all has_own_inputs own) inputs in
@@ -40,7 +40,7 @@ own-kinds (kind ∷ own) inputs outputs few different =
     both (is_kind kind) (list_all is_kind own) (own-kind kind i.0 o.0 f.0 d.0) (own-kinds own i.1 o.1 f.1 d.1)
 
 -- a table with kinds behind it, each of which is one, whose names differ from each other and from those of the table
-table-append : (kinds own : List KindSpec) → is_table kinds ≡ true → list_all is_kind own ≡ true → all_differ (kind_names own) ≡ true → not (list_any (is_among (kind_names own)) (kind_names kinds)) ≡ true → is_table (kinds ++ own) ≡ true
+pub table-append : (kinds own : List KindSpec) → is_table kinds ≡ true → list_all is_kind own ≡ true → all_differ (kind_names own) ≡ true → not (list_any (is_among (kind_names own)) (kind_names kinds)) ≡ true → is_table (kinds ++ own) ≡ true
 table-append kinds own table each differ none =
     let t = and_true (list_all is_kind kinds) (all_differ (kind_names kinds)) table in
     both (list_all is_kind (kinds ++ own)) (all_differ (kind_names (kinds ++ own)))

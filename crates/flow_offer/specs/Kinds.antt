@@ -11,7 +11,7 @@ use Rattle.flow_plan.specs.declared.kind.PortClass.TheVariants.{File}
 use Rattle.flow_plan.specs.declared.kind.PortSpec.{PortSpec}
 use Rattle.flow_plan.specs.Network.{is_stream}
 use Rattle.flow_net.specs.Kinds.{all_differ, is_needed_array}
-use Rattle.flow_catalogue.specs.Kinds.{std_kinds}
+use Rattle.flow_catalogue.specs.Kinds.{std_kinds, std_kinds_of}
 
 -- A name as network files have them: letters, digits and _, a letter first, at most NAME_LIMIT bytes, and no word that begins a form.
 abbrev pub is_network_name : List ℕ → Bool
@@ -78,3 +78,7 @@ pub record AreOwnKinds (own : List KindSpec) : Type 0 where
 -- The table of kinds for networks with these beside the standard ones.
 abbrev pub table_with : List KindSpec → List KindSpec
 table_with own = std_kinds ++ own
+
+-- The table for networks of a file of this version: of the standard kinds those that such a file may name.
+abbrev pub table_of : ℕ → List KindSpec → List KindSpec
+table_of version own = std_kinds_of version ++ own

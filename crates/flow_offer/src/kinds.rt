@@ -1,10 +1,10 @@
 //! The table of the standard kinds with the caller's own behind them.
 
-ghost use Rattle.std.specs.Prelude.{◌≡◌, IfOk};
-ghost use Rattle.flow_offer.specs.Kinds.{table_with};
-ghost use Rattle.flow_offer.specs.Laws.{OwnKindsMakeTable};
+ghost use Rattle.std.specs.Prelude.{◌≡◌, ◌++◌, IfOk};
+ghost use Rattle.flow_offer.specs.Kinds.{table_of, table_with};
+ghost use Rattle.flow_offer.specs.Laws.{ATableOfAVersionIsWithin, OwnKindsMakeTable, OwnKindsMakeTableOf};
 
-use flow_catalogue::kinds;
+use flow_catalogue::{kinds, kinds_of};
 use flow_items::Items;
 use flow_plan::{KindSpec, PortSpec};
 use std::alloc::{AllocError, Global};
@@ -12,6 +12,16 @@ use std::alloc::{AllocError, Global};
 /// The standard kinds with kinds of the caller's own behind them are a table as `expand` asks for one.
 pub fn own_kinds_make_a_table()
     ensures { OwnKindsMakeTable }
+{}
+
+/// So are those of them that a network file of a version may name.
+pub fn own_kinds_make_a_table_of_each_version()
+    ensures { OwnKindsMakeTableOf }
+{}
+
+/// A plan over the kinds that a file of a version may name is one over all kinds.
+pub fn a_table_of_a_version_is_within()
+    ensures { ATableOfAVersionIsWithin }
 {}
 
 fn copy_port(alloc: Global, port: &PortSpec) -> Result<PortSpec, AllocError>
@@ -59,13 +69,33 @@ pub fn copies(alloc: Global, own: &[KindSpec]) -> Result<Vec<KindSpec>, AllocErr
     Ok(copies)
 }
 
+// A table with copies of these behind it.
+fn with_copies(
+    alloc: Global,
+    table: Vec<KindSpec>,
+    own: &[KindSpec],
+) -> Result<Vec<KindSpec>, AllocError>
+    ensures { IfOk result (λ all. all.items ≡ table.items ++ own.now) }
+{
+    let mut all = table;
+    for kind in own {
+        all.push(copy_kind(alloc, kind)?)?;
+    }
+    Ok(all)
+}
+
 /// The table of the standard kinds, and behind them copies of these.
 pub fn table(alloc: Global, own: &[KindSpec]) -> Result<Vec<KindSpec>, AllocError>
     ensures { IfOk result (λ table. table.items ≡ table_with own.now) }
 {
-    let mut table = kinds(alloc)?;
-    for kind in own {
-        table.push(copy_kind(alloc, kind)?)?;
-    }
-    Ok(table)
+    let standard = kinds(alloc)?;
+    with_copies(alloc, standard, own)
+}
+
+/// The table for network files of a version: the standard kinds that such a file may name, and behind them copies of these.
+pub fn table_of(alloc: Global, version: u32, own: &[KindSpec]) -> Result<Vec<KindSpec>, AllocError>
+    ensures { IfOk result (λ table. table.items ≡ table_of version own.now) }
+{
+    let standard = kinds_of(alloc, version)?;
+    with_copies(alloc, standard, own)
 }

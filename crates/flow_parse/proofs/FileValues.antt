@@ -44,7 +44,7 @@ SoundOpen version done (Some o) = IsName o.name × SoundLines version o.lines ×
 
 -- What stands before a line, where no line has a fault.
 pub record SoundParts (parts : Parts) : Type 0 where
-  pub version : (parts.version ≡ 1) ⊎ (parts.version ≡ 2)
+  pub version : (parts.version ≡ 1) ⊎ (parts.version ≡ 2) ⊎ (parts.version ≡ 3)
   pub main : SoundLines parts.version parts.main
   pub inner : InnerLines parts.main
   pub subnets : AllByRecursion (SoundSubnet parts.version) parts.subnets
@@ -205,7 +205,7 @@ abbrev pub SoundBefore : Option Parts → Type 0
 SoundBefore None = Unit {0}
 SoundBefore (Some parts) = SoundParts parts
 
-nothing_sound : (version : ℕ) → (version ≡ 1) ⊎ (version ≡ 2) → SoundParts (nothing version)
+nothing_sound : (version : ℕ) → (version ≡ 1) ⊎ (version ≡ 2) ⊎ (version ≡ 3) → SoundParts (nothing version)
 nothing_sound version one = record { version = one; main = tt; inner = tt; subnets = tt; differ = tt; opened = tt; count = omega arith }
 
 or_none_sound : (o : Option NetFault) (x next : Option Parts) → or_fault o x ≡ Ok next → (o ≡ None) × (x ≡ next)

@@ -1,5 +1,5 @@
 -- The words and the texts of a file's lines.
-use Rattle.std.proofs.Common.{◌≡◌, ◌≢◌, ℕ, zero, suc, Bool, true, false, cond, eqb, List, [], ◌∷◌, ◌++◌, length, ◌-◌, get_or, take, Option, Some, None, refl, sym, subst}
+use Rattle.std.proofs.Common.{◌≡◌, ◌≢◌, ℕ, ◌≤◌, zero, suc, Bool, true, false, cond, eqb, List, [], ◌∷◌, ◌++◌, length, ◌-◌, get_or, take, Option, Some, None, refl, sym, subst}
 use Rattle.std.specs.List.{AllByRecursion, slice_split, onto_first}
 use Rattle.std.specs.Str.Lines.{lines, lines_of_parts, strip_carriage_return}
 use Rattle.std.proofs.lemmas.Bool.{eqb-true}
@@ -76,8 +76,8 @@ OfWord word = AllByRecursion (λ b. is_word_byte b ≡ true) word
 abbrev pub OfLine : ℕ → Token → Type 0
 OfLine version (Word w) = OfWord w
 OfLine version (Quoted text) = Clean text
-OfLine version AutomaticInput = version ≡ 2
-OfLine version AutomaticOutput = version ≡ 2
+OfLine version AutomaticInput = 2 ≤ version
+OfLine version AutomaticOutput = 2 ≤ version
 OfLine version _ = Unit {0}
 
 token_fine : (version : ℕ) (t : Token) (rest : List ℕ) → Ends version t rest → Clean (spelling t) → OfLine version t
@@ -110,7 +110,7 @@ OfMention m = OfWord m.name × OfWordIfAny m.kind
 -- The word of what a connection names, or that there are automatic ports.
 abbrev pub OfEnd : ℕ → EndMention → Type 0
 OfEnd version (Port p) = OfWord p.name
-OfEnd version Automatic = version ≡ 2
+OfEnd version Automatic = 2 ≤ version
 
 -- The words in the place of names, and the text, as a line of a file of this version has them.
 abbrev pub Worded : ℕ → Form → Type 0

@@ -29,12 +29,13 @@ use Rattle.flow_parse.proofs.PrintedParts.{Where, in_main, in_subnet, at, ended_
 abbrev header_pieces_of : ℕ → List (List Token)
 header_pieces_of version = (Word (codes "flow") ∷ []) ∷ (Word (decimal version) ∷ []) ∷ []
 
-version_word : (version : ℕ) → (version ≡ 1) ⊎ (version ≡ 2) → IsWord (decimal version)
+version_word : (version : ℕ) → (version ≡ 1) ⊎ (version ≡ 2) ⊎ (version ≡ 3) → IsWord (decimal version)
 version_word version (inl one) = subst IsWord (sym (ap decimal one ∙ decimal_digit 1 (omega arith))) (λ e. cc, search rules)
-version_word version (inr two) = subst IsWord (sym (ap decimal two ∙ decimal_digit 2 (omega arith))) (λ e. cc, search rules)
+version_word version (inr (inl two)) = subst IsWord (sym (ap decimal two ∙ decimal_digit 2 (omega arith))) (λ e. cc, search rules)
+version_word version (inr (inr three)) = subst IsWord (sym (ap decimal three ∙ decimal_digit 3 (omega arith))) (λ e. cc, search rules)
 
 -- A header is read before there is a version.
-header_says : (version : ℕ) → (version ≡ 1) ⊎ (version ≡ 2) → Says 1 ((Word (codes "flow") ∷ []) ∷ (Word (decimal version) ∷ []) ∷ []) (forms.Header version)
+header_says : (version : ℕ) → (version ≡ 1) ⊎ (version ≡ 2) ⊎ (version ≡ 3) → Says 1 ((Word (codes "flow") ∷ []) ∷ (Word (decimal version) ∷ []) ∷ []) (forms.Header version)
 header_says version one = says_form 1 (Word (codes "flow") ∷ []) ((Word (decimal version) ∷ []) ∷ []) (forms.Header version) (word_piece 1 (codes "flow") (λ e. cc, search rules)) (word_piece 1 (decimal version) (version_word version one), tt) refl one
 
 -- The pieces of the line that begins a subnet.

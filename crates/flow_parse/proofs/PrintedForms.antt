@@ -111,7 +111,7 @@ element_again None within = refl
 element_again (Some n) within = number_again 0 LAST_ELEMENT n within.0 within.1 (omega arith)
 
 least_limit : (version : ℕ) → capacity_limit version ≤ CAPACITY_LIMIT
-least_limit version = elim (eqb version 2) as (λ v. cond v CAPACITY_LIMIT FIRST_CAPACITY_LIMIT ≤ CAPACITY_LIMIT) [ true ↦ omega arith | false ↦ omega arith ]
+least_limit version = elim (leb 2 version) as (λ v. cond v CAPACITY_LIMIT FIRST_CAPACITY_LIMIT ≤ CAPACITY_LIMIT) [ true ↦ omega arith | false ↦ omega arith ]
 
 capacity_fits : (version : ℕ) (e : Option ℕ) → IsWithin 1 (capacity_limit version) e → IsWithin 1 CAPACITY_LIMIT e
 capacity_fits version None within = tt
@@ -174,7 +174,7 @@ output_piece : (version : ℕ) (p : PortRef) (is : IsOutput version p) → EndPi
 output_piece version p (inl is) = record { tokens = port_piece p; piece = port_of version p is; row = refl; bytes = refl }
 output_piece version p (inr is) = record {
   tokens = AutomaticOutput ∷ [];
-  piece = subst (λ (v : ℕ). Piece v (AutomaticOutput ∷ [])) (sym is.0) automatic_output_piece;
+  piece = automatic_output_piece version is.0;
   row = refl;
   bytes = subst (λ (q : PortRef). flat_map spelling (AutomaticOutput ∷ []) ≡ flat_map spelling (port_piece q)) (sym is.1) refl;
 }
@@ -183,7 +183,7 @@ input_piece : (version : ℕ) (p : PortRef) (is : IsInput version p) → EndPiec
 input_piece version p (inl is) = record { tokens = port_piece p; piece = port_of version p is; row = refl; bytes = refl }
 input_piece version p (inr is) = record {
   tokens = AutomaticInput ∷ [];
-  piece = subst (λ (v : ℕ). Piece v (AutomaticInput ∷ [])) (sym is.0) automatic_input_piece;
+  piece = automatic_input_piece version is.0;
   row = refl;
   bytes = subst (λ (q : PortRef). flat_map spelling (AutomaticInput ∷ []) ≡ flat_map spelling (port_piece q)) (sym is.1) refl;
 }

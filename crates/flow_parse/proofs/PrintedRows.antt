@@ -1,5 +1,5 @@
 -- The row of tokens that a line of pieces is.
-use Rattle.std.proofs.Common.{◌≡◌, ◌≢◌, ℕ, true, eqb, List, [], ◌∷◌, ◌++◌, map, refl, sym, ap, subst, append_assoc, arith}
+use Rattle.std.proofs.Common.{◌≡◌, ◌≢◌, ℕ, ◌≤◌, true, eqb, List, [], ◌∷◌, ◌++◌, map, refl, sym, ap, subst, append_assoc, arith}
 use Rattle.std.specs.List.{AllByRecursion, flat_map, join_with_byte}
 use Rattle.std.proofs.lemmas.List.{append-nil}
 use Rattle.flow_parse.specs.declared.token.Token.{Token}
@@ -111,17 +111,17 @@ arrow_piece version = record {
   closed = record { one_line = (λ e. omega arith, (λ e. omega arith, tt)); front = 45 ∷ []; last = 62; whole = refl; stays = λ e. omega arith };
 }
 
--- A token of a file of version 2 that no byte of a word follows, where its bytes are closed, is a piece of a line.
-automatic_piece : (t : Token) → ((rest : List ℕ) → DoesntBegin is_word_byte rest → Ends 2 t rest) → Closed (spelling t ++ []) → Piece 2 (t ∷ [])
-automatic_piece t ends closed = record { first = t; others = []; are = refl; tight = (λ rest free. ends rest (free_word rest free), tt); closed = closed }
+-- A token of a file of version 2 or a later one that no byte of a word follows, where its bytes are closed, is a piece of a line.
+automatic_piece : (version : ℕ) (t : Token) → ((rest : List ℕ) → DoesntBegin is_word_byte rest → Ends version t rest) → Closed (spelling t ++ []) → Piece version (t ∷ [])
+automatic_piece version t ends closed = record { first = t; others = []; are = refl; tight = (λ rest free. ends rest (free_word rest free), tt); closed = closed }
 
 -- The automatic input is a piece of a line.
-pub automatic_input_piece : Piece 2 (AutomaticInput ∷ [])
-automatic_input_piece = automatic_piece AutomaticInput (λ rest free. (refl, free)) (record { one_line = (λ e. omega arith, (λ e. omega arith, (λ e. omega arith, tt))); front = 42 ∷ 73 ∷ []; last = 78; whole = refl; stays = λ e. omega arith })
+pub automatic_input_piece : (version : ℕ) → 2 ≤ version → Piece version (AutomaticInput ∷ [])
+automatic_input_piece version later = automatic_piece version AutomaticInput (λ rest free. (later, free)) (record { one_line = (λ e. omega arith, (λ e. omega arith, (λ e. omega arith, tt))); front = 42 ∷ 73 ∷ []; last = 78; whole = refl; stays = λ e. omega arith })
 
 -- The automatic output is a piece of a line.
-pub automatic_output_piece : Piece 2 (AutomaticOutput ∷ [])
-automatic_output_piece = automatic_piece AutomaticOutput (λ rest free. (refl, free)) (record { one_line = (λ e. omega arith, (λ e. omega arith, (λ e. omega arith, (λ e. omega arith, tt)))); front = 42 ∷ 79 ∷ 85 ∷ []; last = 84; whole = refl; stays = λ e. omega arith })
+pub automatic_output_piece : (version : ℕ) → 2 ≤ version → Piece version (AutomaticOutput ∷ [])
+automatic_output_piece version later = automatic_piece version AutomaticOutput (λ rest free. (later, free)) (record { one_line = (λ e. omega arith, (λ e. omega arith, (λ e. omega arith, (λ e. omega arith, tt)))); front = 42 ∷ 79 ∷ 85 ∷ []; last = 84; whole = refl; stays = λ e. omega arith })
 
 -- A quoted text without line ends is a piece of a line.
 pub quoted_piece : (version : ℕ) (text : List ℕ) → AllByRecursion (λ b. b ≢ 10) text → Piece version (Quoted text ∷ [])

@@ -1,9 +1,9 @@
 -- A line is a row of tokens, or has a bad byte or an open quote.
-use Rattle.std.proofs.Common.{◌≡◌, ℕ, zero, suc, ◌+◌, ◌<◌, ◌≤◌, Bool, true, false, eqb, List, [], ◌∷◌, ◌++◌, length, take, drop, refl, sym, ap, subst, ◌∙◌, arith, length-append, ◌⊎◌, inl, inr}
+use Rattle.std.proofs.Common.{◌≡◌, ℕ, zero, suc, ◌+◌, ◌<◌, ◌≤◌, Bool, true, false, eqb, leb, List, [], ◌∷◌, ◌++◌, length, take, drop, refl, sym, ap, subst, ◌∙◌, arith, length-append, ◌⊎◌, inl, inr}
 use Rattle.std.specs.Prelude.{◌==◌, codes, take_while}
 use Rattle.std.specs.Str.{bytes_eq}
 use Rattle.std.specs.List.{prefix_len}
-use Rattle.std.proofs.lemmas.Bool.{eqb-true, eqb-false, false≢true}
+use Rattle.std.proofs.lemmas.Bool.{eqb-true, eqb-false, leb-true, leb-false, false≢true}
 use Rattle.std.proofs.lemmas.List.{append-nil, take-append-drop}
 use Rattle.std.proofs.lemmas.Slice.Eq.{bytes_eq-Decides}
 use Rattle.flow_parse.specs.declared.token.Token.{Token}
@@ -95,7 +95,7 @@ record Plain (b : ℕ) : Type 0 where
   close_bracket : eqb b 93 ≡ false
 
 -- A byte that begins no token.
-cut_bad : (version : ℕ) (b : ℕ) (bs : List ℕ) → Plain b → is_word_byte b ≡ false → (b ≡ 45 → DoesntBegin (λ c. c == 62) bs) → (version ≡ 2 → b ≡ 42 → NamesAutomatic bs → ⊥) → Cut version (b ∷ bs)
+cut_bad : (version : ℕ) (b : ℕ) (bs : List ℕ) → Plain b → is_word_byte b ≡ false → (b ≡ 45 → DoesntBegin (λ c. c == 62) bs) → (2 ≤ version → b ≡ 42 → NamesAutomatic bs → ⊥) → Cut version (b ∷ bs)
 cut_bad version b bs p word dash star = bad (p.blank, word, eqb-false b 39 p.quote, eqb-false b 40 p.opens, eqb-false b 41 p.closes, eqb-false b 91 p.open_bracket, eqb-false b 93 p.close_bracket, dash, star)
 
 -- A - before > is an arrow, and any other begins no token.
@@ -115,19 +115,19 @@ starred version b bs t word e spelled run ends =
     ends
     (let size = ap length (take-append-drop k bs) in let sum = length-append (take k bs) (drop k bs) in omega (arith, size, sum))
 
--- In version 2 a * before the word of an automatic port is that port, and any other begins no token.
+-- From version 2 on a * before the word of an automatic port is that port, and any other begins no token.
 cut_star : (version : ℕ) (b : ℕ) (bs : List ℕ) → Plain b → b ≡ 42 → Cut version (b ∷ bs)
-cut_star version b bs p e = by (eqb version 2) refl (bytes_eq (take_while is_word_byte bs) (codes "IN")) refl (bytes_eq (take_while is_word_byte bs) (codes "OUT")) refl where
+cut_star version b bs p e = by (leb 2 version) refl (bytes_eq (take_while is_word_byte bs) (codes "IN")) refl (bytes_eq (take_while is_word_byte bs) (codes "OUT")) refl where
   run : List ℕ
   run = take_while is_word_byte bs
 
-  none : (version ≡ 2 → NamesAutomatic bs → ⊥) → Cut version (b ∷ bs)
+  none : (2 ≤ version → NamesAutomatic bs → ⊥) → Cut version (b ∷ bs)
   none never = cut_bad version b bs p (ap is_word_byte e) (λ dash. absurd (omega (arith, e, dash))) (λ two star. never two)
 
-  by : (two : Bool) → eqb version 2 ≡ two → (input : Bool) → bytes_eq run (codes "IN") ≡ input → (output : Bool) → bytes_eq run (codes "OUT") ≡ output → Cut version (b ∷ bs)
-  by false two input i output o = none (λ is. absurd (eqb-false version 2 two is))
-  by true two true i output o = starred version b bs AutomaticInput (codes "IN") e refl ((bytes_eq-Decides run (codes "IN")).0 i) (eqb-true version 2 two, stops_after is_word_byte bs)
-  by true two false i true o = starred version b bs AutomaticOutput (codes "OUT") e refl ((bytes_eq-Decides run (codes "OUT")).0 o) (eqb-true version 2 two, stops_after is_word_byte bs)
+  by : (two : Bool) → leb 2 version ≡ two → (input : Bool) → bytes_eq run (codes "IN") ≡ input → (output : Bool) → bytes_eq run (codes "OUT") ≡ output → Cut version (b ∷ bs)
+  by false two input i output o = none (λ is. absurd (let less = leb-false 2 version two in omega (arith, less, is)))
+  by true two true i output o = starred version b bs AutomaticInput (codes "IN") e refl ((bytes_eq-Decides run (codes "IN")).0 i) (leb-true 2 version two, stops_after is_word_byte bs)
+  by true two false i true o = starred version b bs AutomaticOutput (codes "OUT") e refl ((bytes_eq-Decides run (codes "OUT")).0 o) (leb-true 2 version two, stops_after is_word_byte bs)
   by true two false i false o = none (λ is names. neither names) where
     neither : NamesAutomatic bs → ⊥
     neither (inl is) = let t : bytes_eq run (codes "IN") ≡ true = (bytes_eq-Decides run (codes "IN")).1 is in false≢true (sym i ∙ t)

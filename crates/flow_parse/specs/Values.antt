@@ -5,7 +5,7 @@ use Rattle.std.specs.Str.{bytes_eq}
 use Rattle.std.specs.List.{AllByRecursion, list_any, sum_by}
 use Rattle.flow_plan.specs.declared.kind.PortRef.{PortRef}
 use Rattle.flow_plan.specs.Network.{automatic_input, automatic_output}
-use Rattle.flow_parse.specs.declared.value.TheConstants.{FIRST_VERSION, SECOND_VERSION}
+use Rattle.flow_parse.specs.declared.value.TheConstants.{FIRST_VERSION, SECOND_VERSION, THIRD_VERSION}
 use Rattle.flow_parse.specs.declared.value.Statement.{Statement}
 use Rattle.flow_parse.specs.declared.value.Statement.TheVariants.{Connect, Initial, InPort, OutPort}
 use Rattle.flow_parse.specs.declared.value.NetPart.{NetPart}
@@ -26,9 +26,9 @@ IsWithin least most (Some n) = (least ≤ n) × (n ≤ most)
 abbrev pub IsPort : PortRef → Type 0
 IsPort port = IsName port.name × IsWithin 0 LAST_ELEMENT port.element
 
--- What a connection names in a file of this version: a port, or in version 2 the automatic one.
+-- What a connection names in a file of this version: a port, or from version 2 on the automatic one.
 abbrev pub IsOneEnd : ℕ → PortRef → PortRef → Type 0
-IsOneEnd version automatic port = IsPort port ⊎ ((version ≡ SECOND_VERSION) × (port ≡ automatic))
+IsOneEnd version automatic port = IsPort port ⊎ ((SECOND_VERSION ≤ version) × (port ≡ automatic))
 
 -- An output that a connection names.
 abbrev pub IsOutput : ℕ → PortRef → Type 0
@@ -79,9 +79,9 @@ pub record IsNetPart (version : ℕ) (part : NetPart) : Type 0 where
   pub said : AllByRecursion (IsStatement version) part.statements
   pub known : AllByRecursion (NamesKnown part.processes) part.statements
 
--- A value has version 1 or 2, subnets under different names, no outer port in its main part, and at most STATEMENT_LIMIT statements in all.
+-- A value has version 1, 2 or 3, subnets under different names, no outer port in its main part, and at most STATEMENT_LIMIT statements in all.
 pub record IsNetText (value : NetText) : Type 0 where
-  pub version : (value.version ≡ FIRST_VERSION) ⊎ (value.version ≡ SECOND_VERSION)
+  pub version : (value.version ≡ FIRST_VERSION) ⊎ (value.version ≡ SECOND_VERSION) ⊎ (value.version ≡ THIRD_VERSION)
   pub subnets : AllByRecursion (λ (s : List ℕ × NetPart). IsName s.0 × IsNetPart value.version s.1) value.subnets
   pub differ : Differ (map (λ s. s.0) value.subnets)
   pub main : IsNetPart value.version value.main

@@ -6,7 +6,7 @@ use std::alloc::{AllocError, AllocFailed};
 /// order are this project's own.
 #[derive(Debug, Clone, Copy, PartialEq, Eq)]
 pub enum Reason {
-    /// The first line that isn't a remark isn't `flow 1` or `flow 2`. In a file of remarks alone the line is one more
+    /// The first line that isn't a remark isn't `flow 1`, `flow 2` or `flow 3`. In a file of remarks alone the line is one more
     /// than the number of lines.
     Header,
     /// A byte outside a quoted text begins no token.
@@ -19,7 +19,7 @@ pub enum Reason {
     /// none of `flow`, `subnet`, `end`, `inport` and `outport`.
     Name,
     /// A capacity isn't a decimal number from 1 to FIRST_CAPACITY_LIMIT in version 1 or from 1 to
-    /// CAPACITY_LIMIT in version 2, or an element isn't one from 0 to LAST_ELEMENT.
+    /// CAPACITY_LIMIT in a later one, or an element isn't one from 0 to LAST_ELEMENT.
     Number,
     /// A process is given a second, different kind in its part; or its part ends, and it has none. Then
     /// the line is that of its first mention.

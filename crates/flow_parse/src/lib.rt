@@ -28,4 +28,4 @@ pub use law::a_file_has_one_outcome;
 pub use name::{RESERVED, is_reserved};
 pub use names::Names;
 pub use printed::print;
-pub use value::{FIRST_VERSION, NetPart, NetText, SECOND_VERSION, Statement};
+pub use value::{FIRST_VERSION, NetPart, NetText, SECOND_VERSION, Statement, THIRD_VERSION};

@@ -113,7 +113,7 @@ fn cut<'a>(alloc: Global, version: u32, bytes: &'a [u8]) -> Result<(Token, &'a [
             None => Err(LineStop::Quote),
         };
     }
-    if first == b'*' && version == SECOND_VERSION {
+    if first == b'*' && version >= SECOND_VERSION {
         return match automatic(more) {
             Some(cut) => Ok(cut),
             None => Err(LineStop::Byte),

@@ -106,7 +106,7 @@ pub fn element(word: &Text) -> Option<u32>
 fn most_capacity(version: u32) -> u32
     ensures { result ≡ capacity_limit version }
 {
-    if version == SECOND_VERSION {
+    if version >= SECOND_VERSION {
         CAPACITY_LIMIT
     } else {
         FIRST_CAPACITY_LIMIT

@@ -7,7 +7,7 @@ ghost use Rattle.flow_parse.specs.Reading.{Gives, word_at, arrow_at, close_at, c
 use crate::form::{EndMention, Form, Mention, PortMention};
 use crate::same::is;
 use crate::token::Token;
-use crate::value::{FIRST_VERSION, SECOND_VERSION};
+use crate::value::{FIRST_VERSION, SECOND_VERSION, THIRD_VERSION};
 use flow_items::Text;
 use std::alloc::{AllocError, Global};
 use std::collections::VecDeque;
@@ -202,8 +202,13 @@ impl Row {
             });
         }
         if is(&version, b"2") {
-            Some(Form::Header {
+            return Some(Form::Header {
                 version: SECOND_VERSION,
+            });
+        }
+        if is(&version, b"3") {
+            Some(Form::Header {
+                version: THIRD_VERSION,
             })
         } else {
             None

@@ -8,9 +8,13 @@ pub const FIRST_VERSION: u32 = 1;
 /// The second version, with automatic ports and greater capacities.
 pub const SECOND_VERSION: u32 = 2;
 
+/// The third version, with more kinds. Its lines are those of the second: what the main part of such a file has besides,
+/// words for texts and the subnets of other files, is filled in before the file is read (`flow_fill`).
+pub const THIRD_VERSION: u32 = 3;
+
 /// What a line of a network file adds to its part. A process is named as its part names it; a port may
 /// be given with an element, and a connection with a capacity: from 1 to FIRST_CAPACITY_LIMIT packets in
-/// version 1, and to CAPACITY_LIMIT in version 2. There a connection may go from the automatic output,
+/// version 1, and to CAPACITY_LIMIT in a later one. There a connection may go from the automatic output,
 /// `*OUT`, and to the automatic input, `*IN`.
 #[derive(Debug, Drop)]
 pub enum Statement {

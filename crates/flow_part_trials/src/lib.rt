@@ -14,6 +14,8 @@ mod lines;
 #[cfg(test)]
 mod lists;
 #[cfg(test)]
+mod maps;
+#[cfg(test)]
 mod passers;
 #[cfg(test)]
 mod picks;

@@ -30,6 +30,11 @@ const NAMES: &[&[u8]] = &[
     b"Match",
     b"Replace",
     b"Sort",
+    b"Find",
+    b"Split",
+    b"Rewrite",
+    b"Glue",
+    b"Where",
 ];
 
 fn check_kind(rt: &impl Abort, named: &[u8], name: &[u8]) {

@@ -19,7 +19,7 @@ use Rattle.regex_vm.specs.Found.{first_match}
 use Rattle.regex_meta.specs.Programs.{pattern_of, leftmost}
 use Rattle.regex_meta.specs.declared.program.Program.{Program}
 use Rattle.regex_meta.proofs.ProgramLemmas.{first_match-leftmost, unanchored_end, leftmost_no_end}
-use Rattle.flow_pattern.specs.Pattern.{pattern_options, reading, IsPattern, expression_in, expression, matches}
+use Rattle.flow_pattern.specs.Pattern.{pattern_options, reading, IsPattern, expression_in, expression, names_in, group_names, matches}
 
 abbrev Found : Type 0
 Found = Nested Re × Names
@@ -36,6 +36,15 @@ same_in (Some found) most a names p = p.1
 pub is_pattern : (text : List ℕ) (hir : Hir) (names : Names) → length text ≤ PATTERN_LIMIT → IsUtf8 text → Reads pattern_options text hir names → IsPattern text
 unfolding Reads
 is_pattern text hir names short utf8 reads = (short, utf8, shallow (reading text) pattern_options.nest_limit (meaning hir) names reads)
+
+named : (o : Option Found) (most : ℕ) (a : Re) (names : Names) → IsSomeAnd o (λ (re, found). (re.depth ≤ most) × SameCaptures a re.value × (names ≡ found) × (group_count a ≤ length names)) → names ≡ names_in o
+named None most a names p = absurd p
+named (Some found) most a names p = p.2
+
+-- The names that it reads are those of the pattern's groups.
+pub names_so : (text : List ℕ) (hir : Hir) (names : Names) → Reads pattern_options text hir names → names ≡ group_names text
+unfolding Reads
+names_so text hir names reads = named (reading text) pattern_options.nest_limit (meaning hir) names reads
 
 -- What it reads matches as the pattern's expression does.
 pub alike : (text : List ℕ) (hir : Hir) (names : Names) → Reads pattern_options text hir names → SameCaptures (meaning hir) (expression text)

@@ -1,8 +1,10 @@
 -- A text that is written piece by piece, of which no more is kept than it may have.
-use Rattle.std.proofs.Common.{◌≡◌, ℕ, ◌+◌, ◌<◌, ◌≤◌, true, List, ◌++◌, length, sym, ap, ◌∙◌, arith}
+use Rattle.std.proofs.Common.{◌≡◌, ℕ, ◌+◌, ◌<◌, ◌≤◌, true, List, ◌++◌, length, Result, Ok, Err, OnOk, sym, ap, ◌∙◌, arith}
 use Rattle.std.proofs.lemmas.List.{length-append}
-use Rattle.flow_pattern.specs.Pattern.{Replacement, matches, replaced}
-use Rattle.flow_pattern.specs.Rewriting.{IsNewText, IsRewritten, Tells}
+use Rattle.regex.specs.Patterns.{Match, find_all}
+use Rattle.regex.specs.Replace.{replaced_by}
+use Rattle.flow_pattern.specs.Pattern.{expression, matches}
+use Rattle.flow_pattern.specs.Rewriting.{IsNewText, IsWrittenAnew, Tells}
 use Rattle.flow_pattern.specs.declared.replacer.NewText.{NewText}
 use Rattle.flow_pattern.specs.declared.replacer.Rewritten.{Rewritten}
 use Rattle.flow_pattern.specs.declared.replacer.Rewritten.TheVariants as told
@@ -22,8 +24,14 @@ module _ (most : ℕ) (whole piece : List ℕ) (old new : NewText) (before : IsN
   passed long items =
       record { bound = same ∙ before.bound; counted = total; kept = λ few. absurd (omega (arith, few, long)); held = omega (arith, ap length items, before.held) }
 
--- What is told of the text with its matches replaced.
-pub rewritten_told : (by : Replacement) (text : List ℕ) (most : ℕ) (r : Rewritten) → matches by.pattern text ≡ true → Tells most (replaced by.pattern by.with text) r → IsRewritten by text most r
-rewritten_told by text most told.Same found tells = absurd tells
-rewritten_told by text most (told.New new) found tells = (found, tells)
-rewritten_told by text most (told.TooLong count) found tells = (found, tells)
+-- What is told of the text in which something is written for each match.
+pub rewritten_told : (pattern : List ℕ) (written : Match → List ℕ) (text : List ℕ) (most : ℕ) (r : Rewritten) → matches pattern text ≡ true
+    → Tells most (replaced_by written text 0 (find_all (expression pattern) text)) r → IsWrittenAnew pattern written text most r
+rewritten_told pattern written text most told.Same found tells = absurd tells
+rewritten_told pattern written text most (told.New new) found tells = (found, tells)
+rewritten_told pattern written text most (told.TooLong count) found tells = (found, tells)
+
+-- What holds where a call gave something, from what holds then.
+pub on_ok : {A E : Type 0} (P Q : Type 0) → (P → Q) → (r : Result A E) → OnOk r P → OnOk r Q
+on_ok P Q f (Ok x) h = f h
+on_ok P Q f (Err e) h = tt

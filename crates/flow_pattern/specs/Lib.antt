@@ -1,4 +1,5 @@
 pub mod Pattern
+pub mod Template
 pub mod Automata
 pub mod Steps
 pub mod Rewriting

@@ -1,7 +1,7 @@
 -- Patterns: which texts are patterns, what one reads as, whether it matches in a text, and a text with its matches replaced. (What a
 -- regular expression means is what the crate regex says of it.)
 use Rattle.flow_limits.specs.declared.TheConstants.{PATTERN_LIMIT}
-use Rattle.std.specs.Prelude.{ℕ, ◌≤◌, Bool, false, List, length, Option, Some, None, IsSomeAnd, is_some, chars}
+use Rattle.std.specs.Prelude.{ℕ, ◌≤◌, Bool, false, List, [], length, Option, Some, None, IsSomeAnd, is_some, chars}
 use Rattle.std.specs.Str.{IsUtf8}
 use Rattle.regex.specs.Patterns.{Re, empty, Config, default_config, find, find_all}
 use Rattle.regex.specs.Replace.{replaced_by}
@@ -28,6 +28,15 @@ expression_in (Some found) = found.0.value
 -- The expression that a pattern reads as.
 abbrev pub expression : List ℕ → Re
 expression pattern = expression_in (reading pattern)
+
+-- The names of the groups that were read, by their numbers. The group 0 is the whole match.
+abbrev pub names_in : Option (Nested Re × Names) → Names
+names_in None = []
+names_in (Some found) = found.1
+
+-- The names of a pattern's groups, where they have some, by their numbers.
+abbrev pub group_names : List ℕ → Names
+group_names pattern = names_in (reading pattern)
 
 -- Whether the pattern matches somewhere in the text.
 abbrev pub matches : List ℕ → List ℕ → Bool

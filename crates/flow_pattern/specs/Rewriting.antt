@@ -1,6 +1,10 @@
 -- A text with the matches of a pattern replaced, as long as it may be, and what is told of a longer one.
-use Rattle.std.specs.Prelude.{◌≡◌, ℕ, ◌<◌, ◌≤◌, true, false, List, length}
-use Rattle.flow_pattern.specs.Pattern.{Replacement, matches, replaced}
+use Rattle.std.specs.Prelude.{◌≡◌, ℕ, ◌<◌, ◌≤◌, true, false, List, length, Option}
+use Rattle.regex.specs.Patterns.{Match, find_all}
+use Rattle.regex.specs.Replace.{replaced_by}
+use Rattle.regex.specs.Search.{Answers, next_match}
+use Rattle.flow_pattern.specs.Pattern.{Replacement, expression, matches}
+use Rattle.flow_pattern.specs.Template.{filled}
 use Rattle.flow_pattern.specs.declared.replacer.NewText.{NewText}
 use Rattle.flow_pattern.specs.declared.replacer.Rewritten.{Rewritten}
 use Rattle.flow_pattern.specs.declared.replacer.Rewritten.TheVariants as told
@@ -19,8 +23,22 @@ Tells most whole told.Same = ⊥
 Tells most whole (told.New new) = (new.items ≡ whole) × (length whole ≤ most)
 Tells most whole (told.TooLong count) = (count ≡ length whole) × (most < count)
 
--- What comes of a text: where nothing matches in it, that alone; else the text with its matches replaced is told.
+-- What comes of a text in which the pattern's matches are replaced by what is written for each: where nothing matches in it, that alone; else the new
+-- text is told.
+abbrev pub IsWrittenAnew : List ℕ → (Match → List ℕ) → List ℕ → ℕ → Rewritten → Type 0
+IsWrittenAnew pattern written text most told.Same = matches pattern text ≡ false
+IsWrittenAnew pattern written text most (told.New new) = (matches pattern text ≡ true) × Tells most (replaced_by written text 0 (find_all (expression pattern) text)) (told.New new)
+IsWrittenAnew pattern written text most (told.TooLong count) = (matches pattern text ≡ true) × Tells most (replaced_by written text 0 (find_all (expression pattern) text)) (told.TooLong count)
+
+-- By bytes that take the place of each match as they are.
 abbrev pub IsRewritten : Replacement → List ℕ → ℕ → Rewritten → Type 0
-IsRewritten by text most told.Same = matches by.pattern text ≡ false
-IsRewritten by text most (told.New new) = (matches by.pattern text ≡ true) × Tells most (replaced by.pattern by.with text) (told.New new)
-IsRewritten by text most (told.TooLong count) = (matches by.pattern text ≡ true) × Tells most (replaced by.pattern by.with text) (told.TooLong count)
+IsRewritten by text most told = IsWrittenAnew by.pattern (λ match. by.with) text most told
+
+-- By what a template writes at each.
+abbrev pub IsRefilled : Replacement → List ℕ → ℕ → Rewritten → Type 0
+IsRefilled by text most told = IsWrittenAnew by.pattern (filled by text) text most told
+
+-- What is told of the next match, where `after` is one more than the end of the last one, or 0 before the first: what the template writes there, and
+-- where it ends.
+abbrev pub IsNextFilled : Replacement → List ℕ → ℕ → ℕ → Option (Rewritten × ℕ) → Type 0
+IsNextFilled by text after most next = Answers next (next_match false (expression by.pattern) text after) (λ match told. Tells most (filled by text match) told.0 × (told.1 ≡ match.trace.end))

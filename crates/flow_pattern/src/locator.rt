@@ -2,7 +2,7 @@
 
 ghost use Rattle.std.specs.Prelude.{◌≡◌, ◌+◌, ◌-◌, ◌<◌, ◌≤◌, false, length, option_map, IfOk, IfSome};
 ghost use Rattle.regex.specs.Patterns.{find, span};
-ghost use Rattle.regex.specs.Search.{next_match, LiesWithin};
+ghost use Rattle.regex.specs.Search.{next_match, LiesWithin, SpansGroups};
 ghost use Rattle.flow_pattern.specs.Pattern.{IsPattern, expression};
 
 use crate::finder::{Means, means_of};
@@ -15,7 +15,7 @@ use std::marker::Model;
 /// A pattern, compiled, with what its searches have built so far. It is seen as the pattern's text.
 ///
 /// As a `Finder`, with a second automaton, which reads back from the end of a match to its start.
-pub(crate) struct Locator {
+pub struct Locator {
     text: Vec<u8>,
     dfa: Dfa,
     forward: Forward,
@@ -55,7 +55,7 @@ impl Drop for Locator {
 
 impl Locator {
     /// Compiles a pattern. One whose program has more than some 10 MiB finds no memory.
-    pub(crate) fn new(alloc: Global, pattern: &[u8]) -> Result<Locator, AllocError>
+    pub fn new(alloc: Global, pattern: &[u8]) -> Result<Locator, AllocError>
         requires pattern { IsPattern pattern.now }
         ensures { IfOk result (λ locator. locator ≡ pattern.now) }
     {
@@ -74,7 +74,7 @@ impl Locator {
     }
 
     /// The span of the leftmost match that starts at `start` or after it. Takes memory where an automaton first gives up.
-    pub(crate) fn find(
+    pub fn find(
         &mut self,
         alloc: Global,
         text: &[u8],
@@ -117,8 +117,23 @@ impl Locator {
         self.steps.find(alloc, &self.dfa, text, start)
     }
 
+    /// What the groups span in the leftmost match that starts at `start` or after it, as cells: from the first group on two
+    /// for each, the places of its beginning and its end plus one, or 0 where it took no part.
+    pub(crate) fn groups(
+        &mut self,
+        alloc: Global,
+        text: &[u8],
+        start: usize,
+    ) -> Result<Vec<usize>, AllocError>
+        requires within { start ≤ length text.now }
+        ensures same { self.new ≡ self.old }
+        ensures spans { IfOk result (λ cells. IfSome (find (expression self.old) text.now start) (λ m. SpansGroups false text.now m (span m) cells.items)) }
+    {
+        self.steps.groups(alloc, &self.dfa, text, start)
+    }
+
     /// The span of the match after the one that ended at `after - 1`, or of the first match where `after` is 0.
-    pub(crate) fn next(
+    pub fn next(
         &mut self,
         alloc: Global,
         text: &[u8],

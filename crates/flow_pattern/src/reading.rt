@@ -2,9 +2,10 @@
 
 ghost use Rattle.flow_limits.specs.declared.TheConstants.{PATTERN_LIMIT};
 ghost use Rattle.std.specs.Prelude.{◌≡◌, ◌↔◌, ◌<◌, ◌≤◌, length, vec_len, map, option_map, string_bytes, IfErr, IfOk, IfNone, IfSome, IsTrue};
+ghost use Rattle.regex.specs.Names.{names_of};
 ghost use Rattle.regex.specs.Patterns.{Reads};
 ghost use Rattle.regex_syntax.specs.WellFormed.{IsWellFormed};
-ghost use Rattle.flow_pattern.specs.Pattern.{pattern_options, IsPattern};
+ghost use Rattle.flow_pattern.specs.Pattern.{pattern_options, IsPattern, group_names};
 
 use crate::finder::{Uncompiled, means_for, means_of};
 use flow_limits::PATTERN_LIMIT;
@@ -37,6 +38,7 @@ pub(crate) fn read(alloc: Global, source: &str) -> Result<Result<Parsed, Error>,
     ensures some { IfOk result (λ read. IfOk read (λ p. IsPattern source.now)) }
     ensures reads { IfOk result (λ read. IfOk read (λ p. Reads pattern_options source.now p.hir (map (option_map string_bytes) p.names.items))) }
     ensures formed { IfOk result (λ read. IfOk read (λ p. IsWellFormed pattern_options.utf8 p.hir)) }
+    ensures names { IfOk result (λ read. IfOk read (λ p. names_of p.names.items ≡ group_names source.now)) }
     ensures group_zero { IfOk result (λ read. IfOk read (λ p. 0 < vec_len p.names)) }
 {
     match parse(alloc, source, &options()) {
@@ -46,6 +48,21 @@ pub(crate) fn read(alloc: Global, source: &str) -> Result<Result<Parsed, Error>,
             _ => Ok(Err(error)),
         },
     }
+}
+
+// The names of a pattern's groups, where they have some, by their numbers.
+pub(crate) fn names_in(alloc: Global, pattern: &[u8]) -> Result<Vec<Option<String>>, AllocError>
+    requires pattern { IsPattern pattern.now }
+    ensures names { IfOk result (λ names. names_of names.items ≡ group_names pattern.now) }
+    ensures numbered { IfOk result (λ names. 0 < vec_len names) }
+{
+    let Ok(source) = str::from_utf8(pattern) else {
+        unreachable!()
+    };
+    let Ok(Parsed { hir: _hir, names }) = read(alloc, source)? else {
+        unreachable!()
+    };
+    Ok(names)
 }
 
 /// Where a text stops being a pattern; none where it is one. Reading it takes memory.

@@ -52,7 +52,7 @@ pub(crate) struct NewText {
 }
 
 impl NewText {
-    fn new(alloc: Global, most: usize) -> NewText
+    pub(crate) fn new(alloc: Global, most: usize) -> NewText
         ensures { IsNewText most [] result }
     {
         NewText {
@@ -63,7 +63,7 @@ impl NewText {
     }
 
     // Adds a piece. (A text of more than 2^64 bytes finds no memory.)
-    fn put(&mut self, piece: &[u8]) -> Result<(), AllocError>
+    pub(crate) fn put(&mut self, piece: &[u8]) -> Result<(), AllocError>
         ensures { OnOk result ((most : ℕ) (whole : List ℕ) → IsNewText most whole self.old → IsNewText most (whole ++ piece.now) self.new) }
     {
         let Some(count) = self.count.checked_add(piece.len() as u64) else {
@@ -78,7 +78,7 @@ impl NewText {
     }
 
     // The text, or its length where it is too long.
-    fn told(self) -> Rewritten
+    pub(crate) fn told(self) -> Rewritten
         ensures { (most : ℕ) (whole : List ℕ) → IsNewText most whole self → Tells most whole result }
     {
         if self.count > self.most as u64 {

@@ -1,7 +1,7 @@
 //! The search that never gives up: by the states of a pattern's program, one after another.
 
-ghost use Rattle.std.specs.Prelude.{◌≡◌, ◌≤◌, Some, None, length, is_some, option_map, IfOk};
-ghost use Rattle.regex_vm.specs.Found.{first_match, span};
+ghost use Rattle.std.specs.Prelude.{◌≡◌, ◌-◌, ◌≤◌, Some, None, length, is_some, option_map, IfOk, IfSome};
+ghost use Rattle.regex_vm.specs.Found.{first_match, group_cells, span};
 ghost use Rattle.flow_pattern.specs.Steps.{HasRoomFor};
 
 use regex_dfa::Dfa;
@@ -93,5 +93,26 @@ impl Steps {
         let found = machine.find(&dfa.nfa, text, start, text.len(), text.len(), &mut []);
         self.machine = Some(machine);
         Ok(found)
+    }
+
+    /// The cells of the groups of the leftmost match that starts at `start` or after it.
+    pub(crate) fn groups(
+        &mut self,
+        alloc: Global,
+        dfa: &Dfa,
+        text: &[u8],
+        start: usize,
+    ) -> Result<Vec<usize>, AllocError>
+        requires within { start ≤ length text.now }
+        requires room { HasRoomFor dfa.now self.old }
+        ensures cells { IfOk result (λ cells. IfSome (first_match dfa.now.nfa text.now (length text.now) start (length text.now)) (λ m. cells.items ≡ group_cells m (dfa.now.nfa.slot_count - 2))) }
+        ensures room { HasRoomFor dfa.now self.new }
+    {
+        let mut cells = vec![in alloc; 0usize; dfa.nfa.slot_count as usize - 2]?;
+        let mut machine = machine_for(alloc, self.machine.take(), dfa)?;
+        let slots = cells.as_mut_slice();
+        let _found = machine.find(&dfa.nfa, text, start, text.len(), text.len(), slots);
+        self.machine = Some(machine);
+        Ok(cells)
     }
 }

@@ -1,3 +1,4 @@
 pub mod Network
 pub mod Texts
+pub mod Templates
 pub mod Valid

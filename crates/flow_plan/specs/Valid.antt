@@ -10,6 +10,7 @@ use Rattle.flow_plan.specs.declared.plan.PortRow.{PortRow}
 use Rattle.flow_plan.specs.declared.plan.PortTable.{PortTable}
 use Rattle.flow_plan.specs.Network.{Network, LaidOut, HasInput, IsInputEnd, IsOutputEnd, elements_of, is_stream}
 use Rattle.flow_plan.specs.Texts.{IsOfClass}
+use Rattle.flow_plan.specs.Templates.{TemplatesFit}
 
 -- Input i of process p receives from a connection.
 pub record HasConnection (n : Network) (p i : ℕ) : Type 0 where
@@ -72,11 +73,12 @@ pub record FitsOption (n : Network) (p i : ℕ) (text : List ℕ) : Type 0 where
   pub class : IsOfClass port.row.spec.class text
   pub short : length text ≤ TEXT_LIMIT
 
--- Each option fits an option port, an option port that is needed has an option, and none has two.
+-- Each option fits an option port, an option port that is needed has an option, none has two, and each template is one for its pattern.
 pub record HasOptions (n : Network) : Type 0 where
   pub fits : (p k i : ℕ) (x : Process) (text : List ℕ) → slice_get n.processes p ≡ Some x → slice_get x.options k ≡ Some (i, text) → FitsOption n p i text
   pub each_option : (p i : ℕ) → NeedsOption n p i → HasOption n p i
   pub one_option : (p k l i : ℕ) (x : Process) (text other : List ℕ) → slice_get n.processes p ≡ Some x → slice_get x.options k ≡ Some (i, text) → slice_get x.options l ≡ Some (i, other) → k ≡ l
+  pub templates : TemplatesFit n
 
 -- An array has from 1 to ELEMENT_LIMIT elements, and every other port has 1.
 pub record IsRow (row : PortRow) : Type 0 where

@@ -6,7 +6,8 @@ use std::alloc::{AllocError, Global};
 
 /// What a port carries. A stream port carries packets. An option port is given one text before the
 /// network runs: a decimal number within bounds, a list of field lengths, the name of a file, a
-/// pattern, or any text.
+/// pattern, a template for the pattern that the option port at another place of the kind's inputs is
+/// given, a bound on numbers, a word that says whether something is so, or any text.
 #[derive(Clone, Copy, Debug, PartialEq, Eq)]
 pub enum PortClass {
     Stream,
@@ -14,6 +15,9 @@ pub enum PortClass {
     Fields,
     File,
     Pattern,
+    Template { pattern: u32 },
+    Bound,
+    Whether,
     Text,
 }
 

@@ -253,6 +253,11 @@ not-standard kinds.Tail same = let h : 79 ≡ 84 = ap first_letter same in omega
 not-standard kinds.Match same = let h : 79 ≡ 77 = ap first_letter same in omega (arith, h)
 not-standard kinds.Replace same = let h : 79 ≡ 82 = ap first_letter same in omega (arith, h)
 not-standard kinds.Sort same = let h : 79 ≡ 83 = ap first_letter same in omega (arith, h)
+not-standard kinds.Find same = let h : 79 ≡ 70 = ap first_letter same in omega (arith, h)
+not-standard kinds.Split same = let h : 79 ≡ 83 = ap first_letter same in omega (arith, h)
+not-standard kinds.Rewrite same = let h : 79 ≡ 82 = ap first_letter same in omega (arith, h)
+not-standard kinds.Glue same = let h : 79 ≡ 71 = ap first_letter same in omega (arith, h)
+not-standard kinds.Where same = let h : 79 ≡ 87 = ap first_letter same in omega (arith, h)
 
 pub process_is : (a b : Process) → Some a ≡ Some b → a ≡ b
 process_is a b h = cc

@@ -61,5 +61,5 @@ returns-clause-rewritten c =
     let written = l.invariant.2 in
     let whole = ap (λ x. written.0 ++ x) (take_rest text _ ∙ sym (rest_left re with text l.after none)) ∙ written.2 in
     let told = c.told.ensures c.args.most _ (c.in_ok-put-3.ensures c.args.most written.0 written.1) in
-    rewritten_told (record { pattern = c.args.locator.now; with = with }) text c.args.most c.told.result (l.invariant.3 (omega (arith, c.if-after-eq0.false)))
+    rewritten_told c.args.locator.now (λ _. with) text c.args.most c.told.result (l.invariant.3 (omega (arith, c.if-after-eq0.false)))
     (subst (λ (x : List ℕ). Tells c.args.most x c.told.result) whole told)

@@ -1,0 +1,2 @@
+pub mod FolderEnd
+pub mod FolderStream

@@ -1,0 +1,10 @@
+use Rattle.std.proofs.Common.{◌-◌, ◌≤◌, length}
+use Rattle.regex.specs.Names.{names_of}
+use Rattle.flow_pattern.proofs.Spelling.{IsReadUpTo}
+use Rattle.flow_pattern.proofs.template.parts_in.Given as goal
+
+abbrev pub invariant-loop-at : goal.invariant-loop-at
+invariant-loop-at l = (l.at ≤ length l.text) × IsReadUpTo (names_of l.names) l.text l.parts.items l.at
+
+abbrev pub decreases-loop-at : goal.decreases-loop-at
+decreases-loop-at l = length l.text - l.at

@@ -1,0 +1,3 @@
+pub mod Where
+pub mod WhereLaws
+pub mod Meanings
