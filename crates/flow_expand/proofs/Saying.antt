@@ -11,8 +11,8 @@ use Rattle.flow_net.specs.declared.fault.PlanStop.TheVariants as plans
 use Rattle.flow_plan.specs.declared.kind.KindSpec.{KindSpec}
 use Rattle.flow_net.specs.Kinds.{is_table}
 use Rattle.flow_plan.specs.Network.{Network}
-use Rattle.flow_net.specs.Drafts.{Draft, Answers}
-use Rattle.flow_net.specs.Finishes as finishes
+use Rattle.flow_net.specs.Drafts.{Draft}
+use Rattle.flow_net.specs.Finishes.{Finishes, FinishesTo}
 use Rattle.flow_net.proofs.KindTables.{IsSound-empty}
 use Rattle.flow_parse.specs.declared.value.Statement.{Statement}
 use Rattle.flow_parse.specs.declared.value.NetText.{NetText}
@@ -80,17 +80,17 @@ module _ (kinds : List KindSpec) (text : NetText) (table : IsTrue (is_table kind
   told_stops (Fault fault) (inr told) = meant_is_said kinds text written told.0 passed (names_of (Ok told.0) told.1).1 (Err fault) (meant_of told.0 (Err fault) told.2) (Err fault) refl
   told_stops NoMemory told = tt
 
-  concludes : (draft : Draft) → Told text kinds list (Ok draft) → (answer : Result Network PlanFault) → finishes.finished draft ≡ answer → TextComesTo kinds text (as_text answer)
-  concludes draft told answer is =
-      meant_is_said kinds text written told.0 passed (names_of (Ok told.0) told.1).1 (Ok draft) (meant_of told.0 (Ok draft) told.2) (as_text answer) (ap as_text (sym is))
+  concludes : (draft : Draft) → Told text kinds list (Ok draft) → (answer : Result Network PlanFault) → FinishesTo draft answer → TextComesTo kinds text (as_text answer)
+  concludes draft told answer ends =
+      meant_is_said kinds text written told.0 passed (names_of (Ok told.0) told.1).1 (Ok draft) (meant_of told.0 (Ok draft) told.2) (as_text answer) (answer, ends, refl)
 
   -- One that was told and isn't whole has that fault.
-  pub finish_stops : (draft : Draft) → Told text kinds list (Ok draft) → (stop : PlanStop) → Answers (finishes.finished draft) (Err stop) → Gives {X = Network} (Err (stop_of stop)) (λ outcome. TextComesTo kinds text outcome)
+  pub finish_stops : (draft : Draft) → Told text kinds list (Ok draft) → (stop : PlanStop) → Finishes draft (Err stop) → Gives {X = Network} (Err (stop_of stop)) (λ outcome. TextComesTo kinds text outcome)
   finish_stops draft told (plans.Fault fault) is = concludes draft told (Err fault) is
   finish_stops draft told plans.NoMemory is = tt
 
   -- One that was told and is whole is that plan.
-  pub finish_plan : (draft : Draft) → Told text kinds list (Ok draft) → (plan : Network) → finishes.finished draft ≡ Ok plan → TextComesTo kinds text (Ok plan)
+  pub finish_plan : (draft : Draft) → Told text kinds list (Ok draft) → (plan : Network) → FinishesTo draft (Ok plan) → TextComesTo kinds text (Ok plan)
   finish_plan draft told plan is = concludes draft told (Ok plan) is
 
 module _ (text : NetText) (kinds : List KindSpec) (list : List (List ℕ × List ℕ)) (named : Draft) (is : after_processes (empty kinds) (filter_map (own_process text) list) ≡ Ok named) where

@@ -1,4 +1,5 @@
 pub mod Agrees
+pub mod Classes
 pub mod Decided
 pub mod Differ
 pub mod Examples
@@ -16,6 +17,7 @@ pub mod Planning
 pub mod Preorder
 pub mod Sizing
 pub mod Tellable
+pub mod Templates
 pub mod TextOnce
 pub mod Walking
 pub mod Whole

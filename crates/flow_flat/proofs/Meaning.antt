@@ -10,7 +10,7 @@ use Rattle.flow_net.specs.declared.fault.PlanFault.{PlanFault}
 use Rattle.flow_plan.specs.declared.kind.KindSpec.{KindSpec}
 use Rattle.flow_plan.specs.Network.{Network}
 use Rattle.flow_net.specs.Drafts.{Draft}
-use Rattle.flow_net.specs.Finishes as finishes
+use Rattle.flow_net.specs.Finishes.{FinishesTo}
 use Rattle.flow_parse.specs.declared.value.Statement.{Statement}
 use Rattle.flow_parse.specs.declared.value.NetText.{NetText}
 use Rattle.flow_flat.specs.declared.fault.ExpandFault.{ExpandFault}
@@ -81,7 +81,7 @@ module _ (kinds : List KindSpec) (text : NetText) where
 
   -- The outcome of a text whose statements came to this.
   abbrev pub Concludes : Result Draft ExpandFault → Result Network ExpandFault → Type 0
-  Concludes (Ok draft) outcome = outcome ≡ as_text (finishes.finished draft)
+  Concludes (Ok draft) outcome = (flat : Result Network PlanFault) × FinishesTo draft flat × (outcome ≡ as_text flat)
   Concludes (Err fault) outcome = outcome ≡ Err fault
 
   -- A builder that is told the processes of a text, and then its statements as they are meant, comes to what the text comes to.
@@ -89,7 +89,7 @@ module _ (kinds : List KindSpec) (text : NetText) where
       → (drafted : Result Draft ExpandFault) → AfterMeant named (all_statements text) drafted → (outcome : Result Network ExpandFault) → Concludes drafted outcome → TextComesTo kinds text outcome
   meant_is_said written named passed names (Ok draft) told outcome is =
       let t = all_taken (all_statements text) named draft told in
-      subst (TextComesTo kinds text) (sym is) (whole_text kinds text written passed t.meant (finishes.finished draft) (taken kinds (flat_of text) named passed names t.short (Ok draft) t.told (finishes.finished draft) refl))
+      subst (TextComesTo kinds text) (sym is.2) (whole_text kinds text written passed t.meant is.0 (taken kinds (flat_of text) named passed names t.short (Ok draft) t.told is.0 is.1))
   meant_is_said written named passed names (Err fault) told outcome is =
       let f = fails (all_statements text) [] named fault names told in
       subst (TextComesTo kinds text) (sym is) (HasTextFault.of_statement written (record { place = f.0; one = f.1; here = f.2; fails = f.3; before = f.4 }))

@@ -6,13 +6,17 @@ use Rattle.flow_net.specs.declared.fault.PlanFault.{PlanFault}
 use Rattle.flow_plan.specs.declared.kind.KindSpec.{KindSpec}
 use Rattle.flow_plan.specs.declared.kind.PortRef.{PortRef}
 use Rattle.flow_plan.specs.Network.{Network}
+use Rattle.flow_plan.specs.Templates.{TemplateGiven, FirstUnfit}
+use Rattle.flow_net.specs.Finishes.{unfit_fault}
 use Rattle.flow_net.proofs.Places.{same_or_not}
 use Rattle.flow_parse.specs.declared.value.Statement.TheVariants.{Connect, Initial, InPort, OutPort}
 use Rattle.flow_parse.specs.declared.value.NetPart.{NetPart}
-use Rattle.flow_flat.specs.Names.{PortAt, Join}
+use Rattle.flow_flat.specs.Names.{PortAt, Join, text_ports}
+use Rattle.flow_flat.specs.Plans.{plan_of}
 use Rattle.flow_flat.specs.Firsts.{AllPass, FirstFails}
-use Rattle.flow_flat.specs.Faults.{ProcessPasses, StatementPasses, PortPasses, StatementTest, TextTest, FitsAt, HasFault, HasPlan, ComesTo}
-use Rattle.flow_flat.specs.Faults.HasFault.{of_process, of_statement, of_port, of_sum}
+use Rattle.flow_flat.specs.Faults.{ProcessPasses, StatementPasses, PortPasses, StatementTest, TextTest, FitsAt, HasFault, HasPlan, ComesTo, sum_test}
+use Rattle.flow_flat.specs.Faults.HasFault.{of_process, of_statement, of_port, of_sum, of_template}
+use Rattle.flow_flat.proofs.Templates.{fit_or_unfit, unfit_once}
 
 -- A test with one outcome at most.
 abbrev pub IsTest : {X F : Type 0} → (List X → X → Result (Unit {0}) F → Type 0) → Type 0
@@ -65,6 +69,28 @@ first_once {X} {F} Test xs f g test a b = by (same_or_not a.place b.place) where
   by (inl same) = at same
   by (inr ne) = apart (order a.place b.place ne)
 
+-- Of two stages that follow one another the first fails with this, or it passes and the second does.
+abbrev pub Stages : {F : Type 0} → Type 0 → (F → Type 0) → (F → Type 0) → F → Type 0
+Stages Passes Fails Later fault = Fails fault ⊎ (Passes × Later fault)
+
+-- Of this there is one at most.
+abbrev pub HasOne : {F : Type 0} → (F → Type 0) → Type 0
+HasOne {F} Fails = (f g : F) → Fails f → Fails g → f ≡ g
+
+-- Stages have one fault at most, where each of them has.
+pub stages_once : {F : Type 0} (Passes : Type 0) (Fails Later : F → Type 0) → (Passes → (f : F) → Fails f → ⊥) → HasOne Fails → HasOne Later → HasOne (Stages Passes Fails Later)
+stages_once Passes Fails Later apart fails later f g (inl a) (inl b) = fails f g a b
+stages_once Passes Fails Later apart fails later f g (inl a) (inr b) = absurd (apart b.0 f a)
+stages_once Passes Fails Later apart fails later f g (inr a) (inl b) = absurd (apart a.0 g b)
+stages_once Passes Fails Later apart fails later f g (inr a) (inr b) = later f g a.1 b.1
+
+-- Of a list one is the first that fails with this, or each passes and a later stage fails.
+abbrev pub FirstOrLater : {X F : Type 0} → (List X → X → Result (Unit {0}) F → Type 0) → List X → (F → Type 0) → F → Type 0
+FirstOrLater Test xs Later = Stages (AllPass Test xs) (FirstFails Test xs) Later
+
+pub tests_once : {X F : Type 0} (Test : List X → X → Result (Unit {0}) F → Type 0) (xs : List X) (Later : F → Type 0) → IsTest Test → HasOne Later → HasOne (FirstOrLater Test xs Later)
+tests_once Test xs Later test later = stages_once (AllPass Test xs) (FirstFails Test xs) Later (λ all f first. not_both Test xs f test all first) (λ f g a b. first_once Test xs f g test a b) later
+
 text_once : (ps : List (List ℕ × List ℕ)) (at : List PortAt) (joins : List Join) (texts : List (End × List ℕ)) (text to : List ℕ) (into : PortRef) (a b : Result (Unit {0}) PlanFault) → TextTest ps at joins texts text to into a → TextTest ps at joins texts text to into b → a ≡ b
 text_once ps at joins texts text to into (Ok u) (Ok v) p q = refl
 text_once ps at joins texts text to into (Ok u) (Err g) p (inl q) = absurd (cc (p.1, q))
@@ -102,24 +128,34 @@ module _ (kinds : List KindSpec) (text : NetPart) where
   plan_or_fault plan fault p (of_statement named first) = not_both (StatementPasses kinds text) _ fault said_once p.statements first
   plan_or_fault plan fault p (of_port named said first) = not_both (PortPasses kinds text) _ fault port_once p.ports first
   plan_or_fault plan fault p (of_sum named said ports last) = let none = p.sum in cc
+  plan_or_fault plan fault p (of_template named said ports sum template first is) = fit_or_unfit (plan_of kinds text) template p.templates first
+
+  abbrev pub TemplateFails : PlanFault → Type 0
+  TemplateFails fault = (template : TemplateGiven) × FirstUnfit (plan_of kinds text) template × (fault ≡ unfit_fault template)
+
+  -- What is looked at once all statements are there: the ports, then the sum, then the templates.
+  abbrev pub WholeFails : PlanFault → Type 0
+  WholeFails = FirstOrLater (PortPasses kinds text) (text_ports kinds text.processes)
+      (Stages (sum_test (plan_of kinds text).connections ≡ Ok tt) (λ fault. sum_test (plan_of kinds text).connections ≡ Err fault) TemplateFails)
+
+  sum_once : (f g : PlanFault) → sum_test (plan_of kinds text).connections ≡ Err f → sum_test (plan_of kinds text).connections ≡ Err g → f ≡ g
+  sum_once f g a b = cc
+
+  template_once : (f g : PlanFault) → TemplateFails f → TemplateFails g → f ≡ g
+  template_once f g a b = a.2 ∙ ap unfit_fault (unfit_once (plan_of kinds text) a.0 b.0 a.1 b.1) ∙ sym b.2
+
+  pub whole_once : HasOne WholeFails
+  whole_once = tests_once (PortPasses kinds text) _ _ port_once (stages_once _ _ _ (λ some f none. let is = some in cc) sum_once template_once)
+
+  staged : (fault : PlanFault) → HasFault kinds text fault → FirstOrLater (ProcessPasses kinds) text.processes (FirstOrLater (StatementPasses kinds text) text.statements WholeFails) fault
+  staged fault (of_process first) = inl first
+  staged fault (of_statement a first) = inr (a, inl first)
+  staged fault (of_port a b first) = inr (a, inr (b, inl first))
+  staged fault (of_sum a b c last) = inr (a, inr (b, inr (c, inl last)))
+  staged fault (of_template a b c d template first is) = inr (a, inr (b, inr (c, inr (d, (template, first, is)))))
 
   one_fault : (f g : PlanFault) → HasFault kinds text f → HasFault kinds text g → f ≡ g
-  one_fault f g (of_process a) (of_process b) = first_once (ProcessPasses kinds) _ f g process_once a b
-  one_fault f g (of_process a) (of_statement named b) = absurd (not_both (ProcessPasses kinds) _ f process_once named a)
-  one_fault f g (of_process a) (of_port named said b) = absurd (not_both (ProcessPasses kinds) _ f process_once named a)
-  one_fault f g (of_process a) (of_sum named said ports b) = absurd (not_both (ProcessPasses kinds) _ f process_once named a)
-  one_fault f g (of_statement n a) (of_process b) = absurd (not_both (ProcessPasses kinds) _ g process_once n b)
-  one_fault f g (of_statement n a) (of_statement m b) = first_once (StatementPasses kinds text) _ f g said_once a b
-  one_fault f g (of_statement n a) (of_port m said b) = absurd (not_both (StatementPasses kinds text) _ f said_once said a)
-  one_fault f g (of_statement n a) (of_sum m said ports b) = absurd (not_both (StatementPasses kinds text) _ f said_once said a)
-  one_fault f g (of_port n s a) (of_process b) = absurd (not_both (ProcessPasses kinds) _ g process_once n b)
-  one_fault f g (of_port n s a) (of_statement m b) = absurd (not_both (StatementPasses kinds text) _ g said_once s b)
-  one_fault f g (of_port n s a) (of_port m t b) = first_once (PortPasses kinds text) _ f g port_once a b
-  one_fault f g (of_port n s a) (of_sum m t ports b) = absurd (not_both (PortPasses kinds text) _ f port_once ports a)
-  one_fault f g (of_sum n s p a) (of_process b) = absurd (not_both (ProcessPasses kinds) _ g process_once n b)
-  one_fault f g (of_sum n s p a) (of_statement m b) = absurd (not_both (StatementPasses kinds text) _ g said_once s b)
-  one_fault f g (of_sum n s p a) (of_port m t b) = absurd (not_both (PortPasses kinds text) _ g port_once p b)
-  one_fault f g (of_sum n s p a) (of_sum m t q b) = cc (a, b)
+  one_fault f g a b = tests_once (ProcessPasses kinds) _ _ process_once (tests_once (StatementPasses kinds text) _ _ said_once whole_once) f g (staged f a) (staged g b)
 
   pub comes_once : (a b : Result Network PlanFault) → ComesTo kinds text a → ComesTo kinds text b → a ≡ b
   comes_once (Ok x) (Ok y) p q = ap Ok (p.is ∙ sym q.is)

@@ -1,5 +1,5 @@
 -- A builder that is told a flat text comes to something, and so to what the text comes to.
-use Rattle.std.proofs.Common.{◌≡◌, ℕ, List, [], ◌∷◌, Option, Some, None, Ok, Err, refl, subst, inl, inr, slice_get}
+use Rattle.std.proofs.Common.{◌≡◌, ℕ, List, [], ◌∷◌, Option, Some, None, Ok, Err, refl, subst, ◌⊎◌, inl, inr, slice_get}
 use Rattle.std.specs.Prelude.{MatchResult, IsTrue}
 use Rattle.std.specs.declared.result.Result.{Result}
 use Rattle.flow_net.specs.declared.draft.End.{End}
@@ -9,19 +9,21 @@ use Rattle.flow_net.specs.declared.fault.PlanFault.TheVariants.{BadOption}
 use Rattle.flow_plan.specs.declared.kind.KindSpec.{KindSpec}
 use Rattle.flow_plan.specs.declared.kind.PortRef.{PortRef}
 use Rattle.flow_plan.specs.Network.{Network}
+use Rattle.flow_plan.specs.Templates.{TemplateGiven, FirstUnfit, TemplatesFit}
 use Rattle.flow_net.specs.Kinds.{is_table}
-use Rattle.flow_net.specs.Drafts.{Draft, ◌>>=◌}
+use Rattle.flow_net.specs.Drafts.{Draft}
 use Rattle.flow_net.specs.Calls.{input_for, after_connect, given as gives}
 use Rattle.flow_net.specs.Options.{FitsPort}
-use Rattle.flow_net.specs.Finishes.{finished}
+use Rattle.flow_net.specs.Finishes.{FinishesTo, draft_fault, plan_of, unfit_fault}
 use Rattle.flow_parse.specs.declared.value.Statement.{Statement}
 use Rattle.flow_parse.specs.declared.value.Statement.TheVariants.{Connect, Initial, InPort, OutPort}
 use Rattle.flow_parse.specs.declared.value.NetPart.{NetPart}
 use Rattle.flow_flat.specs.Faults.{ComesTo}
 use Rattle.flow_flat.specs.Told.{HasShortTexts, empty, after_processes, AfterText, AfterStatement, AfterStatements, IsDraft, IsFlat}
-use Rattle.flow_flat.proofs.Decided.{Dec, dec_class}
+use Rattle.flow_flat.proofs.Classes.{Dec, dec_class}
 use Rattle.flow_flat.proofs.Once.{comes_once}
 use Rattle.flow_flat.proofs.Outcomes.{told_is_said}
+use Rattle.flow_flat.proofs.Templates.{fit_or_first}
 
 dec_port : (o : Option DraftPort) (text : List ℕ) → Dec (FitsPort o text)
 dec_port None text = inr (λ none. none)
@@ -56,9 +58,22 @@ drafted kinds text = by (after_processes (empty kinds) text.processes) where
   by (Ok named) = statements_told text.statements named
   by (Err fault) = (Err fault, refl)
 
+-- A draft finishes to a plan or to a fault.
+finishes_some : (draft : Draft) → (outcome : Result Network PlanFault) × FinishesTo draft outcome
+finishes_some draft = by (draft_fault draft) refl (fit_or_first (plan_of draft)) where
+  by : (r : Result (Unit {0}) PlanFault) → draft_fault draft ≡ r → TemplatesFit (plan_of draft) ⊎ ((template : TemplateGiven) × FirstUnfit (plan_of draft) template) → (outcome : Result Network PlanFault) × FinishesTo draft outcome
+  by (Err fault) is fit = (Err fault, inl is)
+  by (Ok u) is (inl fit) = (Ok (plan_of draft), (is, fit, refl))
+  by (Ok u) is (inr first) = (Err (unfit_fault first.0), inr (is, first.0, first.1, refl))
+
+flat_some : (kinds : List KindSpec) (text : NetPart) → (outcome : Result Network PlanFault) × IsFlat kinds text outcome
+flat_some kinds text = by (drafted kinds text) where
+  by : ((outcome : Result Draft PlanFault) × IsDraft kinds text outcome) → (outcome : Result Network PlanFault) × IsFlat kinds text outcome
+  by (Ok draft, made) = let ends = finishes_some draft in (ends.0, (Ok draft, made, ends.1))
+  by (Err fault, made) = (Err fault, (Err fault, made, refl))
+
 -- What a flat text comes to, as it is told to the builder, is what it is said to come to directly.
 pub said_is_told : (kinds : List KindSpec) (text : NetPart) (outcome : Result Network PlanFault) → IsTrue (is_table kinds) → HasShortTexts text → ComesTo kinds text outcome → IsFlat kinds text outcome
 said_is_told kinds text outcome table short comes =
-    let draft = drafted kinds text in
-    let flat : IsFlat kinds text (draft.0 >>= finished) = (draft.0, draft.1, refl) in
-    subst (IsFlat kinds text) (comes_once kinds text (draft.0 >>= finished) outcome (told_is_said kinds text (draft.0 >>= finished) table short flat) comes) flat
+    let flat = flat_some kinds text in
+    subst (IsFlat kinds text) (comes_once kinds text flat.0 outcome (told_is_said kinds text flat.0 table short flat.1) comes) flat.1

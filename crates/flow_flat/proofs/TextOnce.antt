@@ -5,6 +5,8 @@ use Rattle.std.specs.List.{filter_map}
 use Rattle.flow_net.specs.declared.fault.PlanFault.{PlanFault}
 use Rattle.flow_plan.specs.declared.kind.KindSpec.{KindSpec}
 use Rattle.flow_plan.specs.Network.{Network}
+use Rattle.flow_plan.specs.Templates.{TemplateGiven, TemplatesFit, FirstUnfit}
+use Rattle.flow_net.specs.Finishes.{unfit_fault}
 use Rattle.flow_parse.specs.declared.value.NetText.{NetText}
 use Rattle.flow_flat.specs.declared.fault.ExpandFault.{ExpandFault}
 use Rattle.flow_flat.specs.declared.fault.ExpandFault.TheVariants as faults
@@ -13,9 +15,10 @@ use Rattle.flow_flat.specs.Plans.{plan_of}
 use Rattle.flow_flat.specs.Firsts.{AllPass, FirstFails}
 use Rattle.flow_flat.specs.Faults.{StatementPasses, PortPasses, port_test, text_ends, sum_test}
 use Rattle.flow_flat.specs.Texts.{RecursionPasses, InstancePasses, MeaningPasses, AsPlan, instance_test, deep_instances, all_instances, all_statements, flat_of, said, CanBeWrittenOut, IsSaid, HasTextFault, HasTextPlan, TextComesTo}
-use Rattle.flow_flat.specs.Texts.HasTextFault.{of_subnet, of_process, of_statement, of_port, of_sum}
-use Rattle.flow_flat.proofs.Once.{IsTest, not_both, first_once, statement_once}
+use Rattle.flow_flat.specs.Texts.HasTextFault.{of_subnet, of_process, of_statement, of_port, of_sum, of_template}
+use Rattle.flow_flat.proofs.Once.{IsTest, FirstOrLater, HasOne, WholeFails, not_both, tests_once, statement_once, whole_once}
 use Rattle.flow_flat.proofs.Decided.{Tests, all_or_first, said_tests}
+use Rattle.flow_flat.proofs.Templates.{fit_or_first, fit_or_unfit}
 
 as_plan_once : (P : Result (Unit {0}) PlanFault → Type 0) → ((a b : Result (Unit {0}) PlanFault) → P a → P b → a ≡ b) → (a b : Result (Unit {0}) ExpandFault) → AsPlan P a → AsPlan P b → a ≡ b
 as_plan_once P one (Ok u) (Ok v) p q = refl
@@ -59,33 +62,27 @@ module _ (kinds : List KindSpec) (text : NetText) where
   plan_or_fault plan fault p (of_statement w first) = not_both (MeaningPasses kinds text) _ fault meaning_once p.said.statements first
   plan_or_fault plan fault p (of_port s cause is first) = not_both (PortPasses kinds (flat_of text)) _ cause port_once p.ports first
   plan_or_fault plan fault p (of_sum s ports cause is last) = let none = p.sum in cc
+  plan_or_fault plan fault p (of_template s ports sum template is first) = fit_or_unfit (plan_of kinds (flat_of text)) template p.templates first
+
+  -- A fault of the whole flat text, as one of the text.
+  abbrev FlatFails : ExpandFault → Type 0
+  FlatFails fault = (cause : PlanFault) × (fault ≡ faults.Plan cause) × WholeFails kinds (flat_of text) cause
+
+  flat_once : HasOne FlatFails
+  flat_once f g a b = a.1 ∙ ap faults.Plan (whole_once kinds (flat_of text) a.0 b.0 a.2 b.2) ∙ sym b.1
+
+  staged : (fault : ExpandFault) → HasTextFault kinds text fault
+      → FirstOrLater RecursionPasses (deep_instances text) (FirstOrLater (InstancePasses text kinds) (all_instances text) (FirstOrLater (MeaningPasses kinds text) (all_statements text) FlatFails)) fault
+  staged fault (of_subnet first) = inl first
+  staged fault (of_process ends first) = inr (ends, inl first)
+  staged fault (of_statement w first) = inr (w.ends, inr (w.processes, inl first))
+  staged fault (of_port s cause is first) = inr (s.processes.ends, inr (s.processes.processes, inr (s.statements, (cause, is, inl first))))
+  staged fault (of_sum s ports cause is last) = inr (s.processes.ends, inr (s.processes.processes, inr (s.statements, (cause, is, inr (ports, inl last)))))
+  staged fault (of_template s ports sum template is first) = inr (s.processes.ends, inr (s.processes.processes, inr (s.statements, (unfit_fault template, is, inr (ports, inr (sum, (template, first, refl)))))))
 
   one_fault : (f g : ExpandFault) → HasTextFault kinds text f → HasTextFault kinds text g → f ≡ g
-  one_fault f g (of_subnet lx) (of_subnet rx) = first_once RecursionPasses _ f g recursion_once lx rx
-  one_fault f g (of_subnet lx) (of_process ra rx) = absurd (not_both RecursionPasses _ f recursion_once ra lx)
-  one_fault f g (of_subnet lx) (of_statement rw rx) = absurd (not_both RecursionPasses _ f recursion_once rw.ends lx)
-  one_fault f g (of_subnet lx) (of_port rs rc re rx) = absurd (not_both RecursionPasses _ f recursion_once rs.processes.ends lx)
-  one_fault f g (of_subnet lx) (of_sum rs rp rc re rx) = absurd (not_both RecursionPasses _ f recursion_once rs.processes.ends lx)
-  one_fault f g (of_process la lx) (of_subnet rx) = absurd (not_both RecursionPasses _ g recursion_once la rx)
-  one_fault f g (of_process la lx) (of_process ra rx) = first_once (InstancePasses text kinds) _ f g instance_once lx rx
-  one_fault f g (of_process la lx) (of_statement rw rx) = absurd (not_both (InstancePasses text kinds) _ f instance_once rw.processes lx)
-  one_fault f g (of_process la lx) (of_port rs rc re rx) = absurd (not_both (InstancePasses text kinds) _ f instance_once rs.processes.processes lx)
-  one_fault f g (of_process la lx) (of_sum rs rp rc re rx) = absurd (not_both (InstancePasses text kinds) _ f instance_once rs.processes.processes lx)
-  one_fault f g (of_statement lw lx) (of_subnet rx) = absurd (not_both RecursionPasses _ g recursion_once lw.ends rx)
-  one_fault f g (of_statement lw lx) (of_process ra rx) = absurd (not_both (InstancePasses text kinds) _ g instance_once lw.processes rx)
-  one_fault f g (of_statement lw lx) (of_statement rw rx) = first_once (MeaningPasses kinds text) _ f g meaning_once lx rx
-  one_fault f g (of_statement lw lx) (of_port rs rc re rx) = absurd (not_both (MeaningPasses kinds text) _ f meaning_once rs.statements lx)
-  one_fault f g (of_statement lw lx) (of_sum rs rp rc re rx) = absurd (not_both (MeaningPasses kinds text) _ f meaning_once rs.statements lx)
-  one_fault f g (of_port ls lc le lx) (of_subnet rx) = absurd (not_both RecursionPasses _ g recursion_once ls.processes.ends rx)
-  one_fault f g (of_port ls lc le lx) (of_process ra rx) = absurd (not_both (InstancePasses text kinds) _ g instance_once ls.processes.processes rx)
-  one_fault f g (of_port ls lc le lx) (of_statement rw rx) = absurd (not_both (MeaningPasses kinds text) _ g meaning_once ls.statements rx)
-  one_fault f g (of_port ls lc le lx) (of_port rs rc re rx) = le ∙ ap faults.Plan (first_once (PortPasses kinds (flat_of text)) _ lc rc port_once lx rx) ∙ sym re
-  one_fault f g (of_port ls lc le lx) (of_sum rs rp rc re rx) = absurd (not_both (PortPasses kinds (flat_of text)) _ lc port_once rp lx)
-  one_fault f g (of_sum ls lp lc le lx) (of_subnet rx) = absurd (not_both RecursionPasses _ g recursion_once ls.processes.ends rx)
-  one_fault f g (of_sum ls lp lc le lx) (of_process ra rx) = absurd (not_both (InstancePasses text kinds) _ g instance_once ls.processes.processes rx)
-  one_fault f g (of_sum ls lp lc le lx) (of_statement rw rx) = absurd (not_both (MeaningPasses kinds text) _ g meaning_once ls.statements rx)
-  one_fault f g (of_sum ls lp lc le lx) (of_port rs rc re rx) = absurd (not_both (PortPasses kinds (flat_of text)) _ rc port_once lp rx)
-  one_fault f g (of_sum ls lp lc le lx) (of_sum rs rp rc re rx) = let same : lc ≡ rc = cc (lx, rx) in le ∙ ap faults.Plan same ∙ sym re
+  one_fault f g a b =
+      tests_once RecursionPasses _ _ recursion_once (tests_once (InstancePasses text kinds) _ _ instance_once (tests_once (MeaningPasses kinds text) _ _ meaning_once flat_once)) f g (staged f a) (staged g b)
 
   pub text_once : (a b : Result Network ExpandFault) → TextComesTo kinds text a → TextComesTo kinds text b → a ≡ b
   text_once (Ok x) (Ok y) p q = ap Ok (p.is ∙ sym q.is)
@@ -108,9 +105,14 @@ module _ (kinds : List KindSpec) (text : NetText) where
 
   pub text_some : (outcome : Result Network ExpandFault) × TextComesTo kinds text outcome
   text_some = walked (all_or_first RecursionPasses recursion_tests (deep_instances text)) where
+    fitted : IsSaid kinds text → AllPass (PortPasses kinds (flat_of text)) (text_ports kinds (flat_of text).processes) → sum_test (plan_of kinds (flat_of text)).connections ≡ Ok tt
+        → TemplatesFit (plan_of kinds (flat_of text)) ⊎ ((template : TemplateGiven) × FirstUnfit (plan_of kinds (flat_of text)) template) → (outcome : Result Network ExpandFault) × TextComesTo kinds text outcome
+    fitted s ports sum (inl fit) = (Ok (plan_of kinds (flat_of text)), record { said = s; ports = ports; sum = sum; templates = fit; is = refl })
+    fitted s ports sum (inr first) = (Err (faults.Plan (unfit_fault first.0)), HasTextFault.of_template s ports sum first.0 refl first.1)
+
     summed : IsSaid kinds text → AllPass (PortPasses kinds (flat_of text)) (text_ports kinds (flat_of text).processes)
         → (r : Result (Unit {0}) PlanFault) → sum_test (plan_of kinds (flat_of text)).connections ≡ r → (outcome : Result Network ExpandFault) × TextComesTo kinds text outcome
-    summed s ports (Ok u) is = (Ok (plan_of kinds (flat_of text)), record { said = s; ports = ports; sum = is; is = refl })
+    summed s ports (Ok u) is = fitted s ports is (fit_or_first (plan_of kinds (flat_of text)))
     summed s ports (Err fault) is = (Err (faults.Plan fault), HasTextFault.of_sum s ports fault refl is)
 
     laid : IsSaid kinds text → AllPass (PortPasses kinds (flat_of text)) (text_ports kinds (flat_of text).processes) ⊎ ((fault : PlanFault) × FirstFails (PortPasses kinds (flat_of text)) (text_ports kinds (flat_of text).processes) fault)

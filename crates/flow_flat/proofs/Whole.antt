@@ -15,7 +15,7 @@ use Rattle.flow_flat.specs.declared.fault.ExpandFault.{ExpandFault}
 use Rattle.flow_flat.specs.declared.fault.ExpandFault.TheVariants as faults
 use Rattle.flow_flat.specs.Firsts.{AllPass, FirstFails}
 use Rattle.flow_flat.specs.Faults.{ProcessPasses, StatementPasses, ComesTo}
-use Rattle.flow_flat.specs.Faults.HasFault.{of_process, of_statement, of_port, of_sum}
+use Rattle.flow_flat.specs.Faults.HasFault.{of_process, of_statement, of_port, of_sum, of_template}
 use Rattle.flow_flat.specs.Texts.{MeaningPasses, all_statements, flat_of, said, CanBeWrittenOut, IsSaid, HasTextFault, TextComesTo}
 use Rattle.flow_flat.proofs.Once.{not_both}
 
@@ -67,8 +67,9 @@ module _ (kinds : List KindSpec) (text : NetText) (written : CanBeWrittenOut kin
 
   -- Where each statement means something and the names are those of processes, the text comes to what its flat text comes to.
   pub whole_text : (outcome : Result Network PlanFault) → ComesTo kinds (flat_of text) outcome → TextComesTo kinds text (as_text outcome)
-  whole_text (Ok plan) has = record { said = is_said has.statements; ports = has.ports; sum = has.sum; is = has.is }
+  whole_text (Ok plan) has = record { said = is_said has.statements; ports = has.ports; sum = has.sum; templates = has.templates; is = has.is }
   whole_text (Err fault) (of_process first) = absurd (not_both (ProcessPasses kinds) (flat_of text).processes fault (λ before x a b p q. sym p ∙ q) named first)
   whole_text (Err fault) (of_statement a first) = HasTextFault.of_statement written (subst (λ (l : List (Result Statement ExpandFault)). FirstFails (MeaningPasses kinds text) l (faults.Plan fault)) (sym meant) (meaning_fails kinds text (flat_of text).statements fault first))
   whole_text (Err fault) (of_port a s first) = HasTextFault.of_port (is_said s) fault refl first
   whole_text (Err fault) (of_sum a s ports last) = HasTextFault.of_sum (is_said s) ports fault refl last
+  whole_text (Err fault) (of_template a s ports sum template first is) = HasTextFault.of_template (is_said s) ports sum template (ap faults.Plan is) first
