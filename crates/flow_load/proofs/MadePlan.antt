@@ -4,6 +4,7 @@ use Rattle.std.proofs.Common.{◌≡◌, ◌≢◌, ℕ, zero, suc, true, false,
 use Rattle.std.specs.Prelude.{codes}
 use Rattle.std.specs.List.{All, list_any}
 use Rattle.std.specs.Str.{bytes_eq, IsUtf8}
+use Rattle.std.proofs.lemmas.List.Elements.{All-nil}
 use lib.Utf8.{encode}
 use Rattle.flow_plan.specs.declared.kind.PortClass.{PortClass}
 use Rattle.flow_plan.specs.declared.kind.PortClass.TheVariants.{Stream, Number, File}
@@ -13,6 +14,7 @@ use Rattle.flow_plan.specs.declared.plan.PortRow.{PortRow}
 use Rattle.flow_plan.specs.declared.plan.PortTable.{PortTable}
 use Rattle.flow_plan.specs.Network.{Network}
 use Rattle.flow_plan.specs.Texts.{IsFileName, IsNumberWithin}
+use Rattle.flow_plan.specs.Templates.{Fits, TemplatesFit}
 use Rattle.flow_net.specs.declared.draft.End.{End}
 use Rattle.flow_flat.specs.declared.fault.ExpandFault.TheVariants as faults
 use Rattle.flow_flat.specs.Names.{text_ports}
@@ -140,6 +142,10 @@ made_plan = record {
 planned : made_plan ≡ plan_of (std_kinds_of 1) made_part
 planned = refl
 
+-- No text of it is a template.
+templates : TemplatesFit made_plan
+templates = All-nil Fits
+
 -- The value comes to this plan.
 pub comes : TextComesTo (std_kinds_of 1) made_value (Ok made_plan)
-comes = record { said = record { processes = record { ends = ends; processes = instances }; statements = statements }; ports = ports; sum = sum; is = planned }
+comes = record { said = record { processes = record { ends = ends; processes = instances }; statements = statements }; ports = ports; sum = sum; templates = templates; is = planned }

@@ -7,15 +7,15 @@ use Rattle.flow_parse.specs.Files.{Spells}
 use Rattle.flow_flat.specs.Texts.{TextComesTo}
 use Rattle.flow_machine.specs.Values.{NetValue}
 use Rattle.flow_machine.specs.Starts.{StartsNet}
-use Rattle.flow_catalogue.specs.Kinds.{std_kinds}
+use Rattle.flow_catalogue.specs.Kinds.{std_kinds_of}
 use Rattle.flow_catalogue.specs.Processes.{IsMade, Fits}
 use Rattle.flow_catalogue.specs.declared.standard.Std.{Std}
 
--- The bytes spell a value, and this is its plan over the standard kinds.
+-- The bytes spell a value, and this is its plan over the standard kinds that a file of its version may name.
 pub record IsPlanOf (text : List ℕ) (plan : Network) : Type 0 where
   pub value : NetText
   pub spelled : Spells text value
-  pub comes : TextComesTo std_kinds value (Ok plan)
+  pub comes : TextComesTo (std_kinds_of value.version) value (Ok plan)
 
 -- The component is the process's own in its first state, on these bytes where it reads a file.
 pub record IsComponentOn (bytes : List ℕ) (plan : Network) (p : ℕ) (process : Process) (component : Std) : Type 0 where

@@ -2,7 +2,6 @@
 use Rattle.std.proofs.Common.{◌≡◌, ℕ, List, [], ◌∷◌, map, None, Some, Ok, refl, sym, subst}
 use mathlib.Core.List.{append-nil}
 use Rattle.std.specs.Prelude.{codes}
-use Rattle.std.specs.declared.result.Result.{Result}
 use Rattle.std.specs.List.{list_any}
 use Rattle.std.specs.Str.{bytes_eq}
 use Rattle.std.specs.Str.Lines.{lines}
@@ -12,24 +11,22 @@ use Rattle.flow_plan.specs.Network.{Network}
 use Rattle.flow_plan.specs.Texts.{IsFileName}
 use Rattle.flow_net.specs.declared.draft.End.{End}
 use Rattle.flow_parse.specs.declared.form.Form.TheVariants as forms
-use Rattle.flow_parse.specs.declared.fault.NetFault.{NetFault}
 use Rattle.flow_parse.specs.declared.value.Statement.TheVariants.{Connect, Initial}
 use Rattle.flow_parse.specs.declared.value.NetPart.{NetPart}
 use Rattle.flow_parse.specs.declared.value.NetText.{NetText}
 use Rattle.flow_parse.specs.Files.{says, nothing, LeadsTo, Spells}
-use Rattle.flow_flat.specs.declared.fault.ExpandFault.{ExpandFault}
 use Rattle.flow_flat.specs.declared.fault.ExpandFault.TheVariants as faults
 use Rattle.flow_flat.specs.Names.{text_ports}
 use Rattle.flow_flat.specs.Faults.{PortPasses, port_test, text_ends}
 use Rattle.flow_flat.specs.Texts.{RecursionPasses, InstancePasses, MeaningPasses, fails_if, instance_test, deep_instances, all_instances, all_statements, TextComesTo}
 use Rattle.flow_flat.specs.Firsts.{AllPass}
-use Rattle.flow_flat.proofs.Files.{file_once}
-use Rattle.flow_catalogue.specs.Kinds.{std_kinds}
-use Rattle.flow_offer.specs.Kinds.{table_with}
+use Rattle.flow_catalogue.specs.Kinds.{std_kinds_of}
 use Rattle.flow_load.specs.Networks.{Holds}
 use Rattle.flow_load.proofs.MadeLines.{Saying, header, connects, connects_element, gives_kinded, lead}
+use Rattle.flow_load.proofs.Networks.{one-plan}
 use Rattle.flow_load.proofs.Passing.{all_pass, all_ok}
 use Rattle.flow_witness.specs.Complete.{network_bytes, balance}
+use Rattle.flow_witness.proofs.BalancePlan.{templates}
 use Rattle.flow_witness.proofs.FileNames.{plain-name}
 
 -- A port that is named without an element, and an element of one.
@@ -77,9 +74,9 @@ spelled = subst (λ (l : List (List ℕ)). LeadsTo 1 None l (Ok balance_value)) 
 ends : AllPass RecursionPasses (deep_instances balance_value)
 ends = all_ok (λ before x. fails_if (list_any (bytes_eq x.kind) x.inside) (faults.Recursive x.kind)) (deep_instances balance_value) refl
 
--- Each process is of a kind of the table.
-instances : AllPass (InstancePasses balance_value std_kinds) (all_instances balance_value)
-instances = all_ok (instance_test balance_value std_kinds) (all_instances balance_value) refl
+-- Each process is of a kind that the file may name.
+instances : AllPass (InstancePasses balance_value (std_kinds_of 1)) (all_instances balance_value)
+instances = all_ok (instance_test balance_value (std_kinds_of 1)) (all_instances balance_value) refl
 
 input_name : IsFileName (codes "x")
 input_name = plain-name (codes "x") refl
@@ -89,24 +86,20 @@ abbrev at : ℕ → End
 at place = record { port = place; element = 0 }
 
 -- Each statement may follow those before it.
-statements : AllPass (MeaningPasses std_kinds balance_value) (all_statements balance_value)
-statements = all_pass (MeaningPasses std_kinds balance_value) (all_statements balance_value) ((at 0, refl, input_name), (refl, (refl, (refl, tt))))
+statements : AllPass (MeaningPasses (std_kinds_of 1) balance_value) (all_statements balance_value)
+statements = all_pass (MeaningPasses (std_kinds_of 1) balance_value) (all_statements balance_value) ((at 0, refl, input_name), (refl, (refl, (refl, tt))))
 
 -- Each port is bound as it has to be.
-ports : AllPass (PortPasses std_kinds balance_part) (text_ports std_kinds balance_part.processes)
-ports = all_ok (port_test balance_part.processes (text_ends std_kinds balance_part)) (text_ports std_kinds balance_part.processes) refl
+ports : AllPass (PortPasses (std_kinds_of 1) balance_part) (text_ports (std_kinds_of 1) balance_part.processes)
+ports = all_ok (port_test balance_part.processes (text_ends (std_kinds_of 1) balance_part)) (text_ports (std_kinds_of 1) balance_part.processes) refl
 
-comes : TextComesTo std_kinds balance_value (Ok balance)
-comes = record { said = record { processes = record { ends = ends; processes = instances }; statements = statements }; ports = ports; sum = refl; is = refl }
+comes : TextComesTo (std_kinds_of 1) balance_value (Ok balance)
+comes = record { said = record { processes = record { ends = ends; processes = instances }; statements = statements }; ports = ports; sum = refl; templates = templates; is = refl }
 
 -- The network file holds this value with this plan.
 pub holds : Holds [] network_bytes balance_value balance
-holds = record { spelled = spelled; comes = subst (λ (kinds : List KindSpec). TextComesTo kinds balance_value (Ok balance)) (sym (append-nil std_kinds)) comes }
-
-same_plan : (one other : Network) → ◌≡◌ {A = Result (Result Network ExpandFault) NetFault} (Ok (Ok one)) (Ok (Ok other)) → one ≡ other
-same_plan one other same = cc
+holds = record { spelled = spelled; comes = subst (λ (kinds : List KindSpec). TextComesTo kinds balance_value (Ok balance)) (sym (append-nil (std_kinds_of 1))) comes }
 
 -- It holds no other plan.
 pub only_plan : (text : NetText) (plan : Network) → Holds [] network_bytes text plan → plan ≡ balance
-only_plan text plan is =
-    same_plan plan balance (file_once (table_with []) network_bytes (Ok (Ok plan)) (Ok (Ok balance)) (text, is.spelled, is.comes) (balance_value, holds.spelled, holds.comes))
+only_plan text plan is = one-plan [] network_bytes text balance_value plan balance is holds

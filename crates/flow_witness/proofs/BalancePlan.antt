@@ -2,6 +2,7 @@
 use Rattle.flow_limits.specs.declared.TheConstants.{CAPACITY_LIMIT, SENDER_LIMIT}
 use Rattle.std.proofs.Common.{◌≡◌, ℕ, zero, suc, ◌<◌, ◌≤◌, ◌+◌, Bool, true, false, List, [], ◌∷◌, length, Some, refl, sym, ◌∙◌, ap, subst, arith, inl, slice_get}
 use Rattle.std.proofs.lemmas.Bool.Decides.{nat_tests}
+use Rattle.std.proofs.lemmas.List.Elements.{All-nil}
 use Rattle.std.specs.Prelude.{codes, IsTrue, if◌then◌else◌, ◌==◌, nat_lt}
 use Rattle.std.specs.Str.{bytes_eq}
 use Rattle.flow_plan.specs.declared.plan.Sender.{Sender}
@@ -13,6 +14,7 @@ use Rattle.flow_plan.specs.declared.kind.PortClass.TheVariants.{Stream, File}
 use Rattle.flow_plan.specs.Network.{IsInputEnd, IsOutputEnd, is_stream}
 use Rattle.flow_plan.specs.Valid.{HasConnection, HasSender, HasOption, HasOptionPort, FitsOption, NeedsOutput, IsRow, HasOptions, HasRows, IsWired, IsValid, needs_of}
 use Rattle.flow_plan.specs.Texts.{IsFileName}
+use Rattle.flow_plan.specs.Templates.{Fits, TemplatesFit}
 use Rattle.flow_net.specs.Over.{IsOver, IsOfKind}
 use Rattle.flow_catalogue.specs.declared.table.StdKind.TheVariants as kinds
 use Rattle.flow_catalogue.specs.Kinds.{spec_of, std_kinds}
@@ -162,11 +164,16 @@ first-option p k q option h given = at_four (λ j (x : Process). slice_get x.opt
     (none_there k option) (none_there k option) (none_there k option)
     p q h given
 
+-- No text of it is a template.
+pub templates : TemplatesFit balance
+templates = All-nil Fits
+
 options : HasOptions balance
 options = record {
   fits = λ p k i q text h given. options-fit p k i q text h given;
   each_option = λ p i needs. each-option p i needs.port;
   one_option = λ p k l i q text other h a b. first-option p k q (i, text) h a ∙ sym (first-option p l q (i, other) h b);
+  templates = templates;
 }
 
 -- A row that is no array has one element.

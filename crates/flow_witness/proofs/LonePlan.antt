@@ -1,43 +1,42 @@
 -- The network of one process of the caller's own: the value that its file spells, its plan, which is valid and the only one, and its component, which is the only one too.
 use Rattle.std.proofs.Common.{◌≡◌, ◌⊎◌, ℕ, ◌<◌, true, false, List, [], ◌∷◌, length, map, None, Some, Ok, refl, sym, ◌∙◌, ap, subst, arith, inr, slice_get}
 use Rattle.std.specs.Prelude.{codes}
-use Rattle.std.specs.declared.result.Result.{Result}
 use Rattle.std.specs.List.{list_any}
 use Rattle.std.specs.Str.{bytes_eq}
 use Rattle.std.specs.Str.Lines.{lines}
+use Rattle.std.proofs.lemmas.List.Elements.{All-nil}
 use Rattle.flow_plan.specs.declared.kind.KindSpec.{KindSpec}
 use Rattle.flow_plan.specs.declared.kind.PortClass.TheVariants.{Stream}
 use Rattle.flow_plan.specs.declared.plan.Process.{Process}
 use Rattle.flow_plan.specs.declared.plan.PortRow.{PortRow}
 use Rattle.flow_plan.specs.declared.plan.PortTable.{PortTable}
 use Rattle.flow_plan.specs.Network.{Network, HasInput, is_stream}
+use Rattle.flow_plan.specs.Templates.{Fits, TemplatesFit}
 use Rattle.flow_plan.specs.Valid.{HasConnection, HasText, IsRow, HasOptions, HasRows, IsWired, IsValid, needs_of}
 use Rattle.flow_net.specs.Over.{IsOver, IsOfKind}
 use Rattle.flow_parse.specs.declared.form.Form.TheVariants as forms
-use Rattle.flow_parse.specs.declared.fault.NetFault.{NetFault}
 use Rattle.flow_parse.specs.declared.value.Statement.TheVariants.{Initial}
 use Rattle.flow_parse.specs.declared.value.NetPart.{NetPart}
 use Rattle.flow_parse.specs.declared.value.NetText.{NetText}
 use Rattle.flow_parse.specs.Files.{says, nothing, LeadsTo, Spells}
-use Rattle.flow_flat.specs.declared.fault.ExpandFault.{ExpandFault}
 use Rattle.flow_flat.specs.declared.fault.ExpandFault.TheVariants as faults
 use Rattle.flow_flat.specs.Names.{text_ports}
 use Rattle.flow_flat.specs.Faults.{PortPasses, port_test, text_ends}
 use Rattle.flow_flat.specs.Texts.{RecursionPasses, InstancePasses, MeaningPasses, fails_if, instance_test, deep_instances, all_instances, all_statements}
 use Rattle.flow_flat.specs.Firsts.{AllPass}
-use Rattle.flow_flat.proofs.Files.{file_once}
 use Rattle.flow_own.specs.Mixed.{Other, Own}
 use Rattle.flow_catalogue.specs.declared.table.StdKind.{StdKind}
 use Rattle.flow_catalogue.specs.declared.table.StdKind.TheVariants as kinds
 use Rattle.flow_catalogue.specs.Kinds.{name_of}
 use Rattle.flow_catalogue.proofs.OptionTexts.{has-options}
 use Rattle.flow_offer.specs.Fits.{player_at}
-use Rattle.flow_offer.specs.Kinds.{AreOwnKinds, table_with}
+use Rattle.flow_offer.specs.Kinds.{AreOwnKinds, table_of, table_with}
 use Rattle.flow_offer.specs.Processes.{IsOfferedPlan, IsOwnAt}
 use Rattle.flow_load.specs.Components.{AreComponents, IsPlayedComponent}
 use Rattle.flow_load.specs.Networks.{Holds}
 use Rattle.flow_load.specs.Offers.{AnyKind, Taped}
 use Rattle.flow_load.proofs.MadeLines.{Saying, header, gives_kinded, lead}
+use Rattle.flow_load.proofs.Networks.{one-plan}
 use Rattle.flow_load.proofs.Passing.{all_pass, all_ok}
 use Rattle.flow_witness.specs.Chain.{plain_row}
 use Rattle.flow_witness.specs.Complete.{discard_ports}
@@ -83,26 +82,30 @@ spelled = subst (λ (l : List (List ℕ)). LeadsTo 1 None l (Ok lone_value)) (sy
 no-loop : AllPass RecursionPasses (deep_instances lone_value)
 no-loop = all_ok (λ before x. fails_if (list_any (bytes_eq x.kind) x.inside) (faults.Recursive x.kind)) (deep_instances lone_value) refl
 
-instances : AllPass (InstancePasses lone_value (table_with own_kinds)) (all_instances lone_value)
-instances = all_ok (instance_test lone_value (table_with own_kinds)) (all_instances lone_value) refl
+-- The kinds that the file may name.
+abbrev kinds_there : List KindSpec
+kinds_there = table_of 1 own_kinds
 
-statements : AllPass (MeaningPasses (table_with own_kinds) lone_value) (all_statements lone_value)
-statements = all_pass (MeaningPasses (table_with own_kinds) lone_value) (all_statements lone_value) ((record { port = 0; element = 0 }, refl, tt), tt)
+instances : AllPass (InstancePasses lone_value kinds_there) (all_instances lone_value)
+instances = all_ok (instance_test lone_value kinds_there) (all_instances lone_value) refl
 
-ports : AllPass (PortPasses (table_with own_kinds) lone_part) (text_ports (table_with own_kinds) lone_part.processes)
-ports = all_ok (port_test lone_part.processes (text_ends (table_with own_kinds) lone_part)) (text_ports (table_with own_kinds) lone_part.processes) refl
+statements : AllPass (MeaningPasses kinds_there lone_value) (all_statements lone_value)
+statements = all_pass (MeaningPasses kinds_there lone_value) (all_statements lone_value) ((record { port = 0; element = 0 }, refl, tt), tt)
+
+ports : AllPass (PortPasses kinds_there lone_part) (text_ports kinds_there lone_part.processes)
+ports = all_ok (port_test lone_part.processes (text_ends kinds_there lone_part)) (text_ports kinds_there lone_part.processes) refl
+
+-- It has no option, so no text of it is a template.
+templates : TemplatesFit lone
+templates = All-nil Fits
 
 -- The network file holds this value with this plan.
 pub holds : Holds own_kinds lone_bytes lone_value lone
-holds = record { spelled = spelled; comes = record { said = record { processes = record { ends = no-loop; processes = instances }; statements = statements }; ports = ports; sum = refl; is = refl } }
-
-same_plan : (one other : Network) → ◌≡◌ {A = Result (Result Network ExpandFault) NetFault} (Ok (Ok one)) (Ok (Ok other)) → one ≡ other
-same_plan one other same = cc
+holds = record { spelled = spelled; comes = record { said = record { processes = record { ends = no-loop; processes = instances }; statements = statements }; ports = ports; sum = refl; templates = templates; is = refl } }
 
 -- It holds no other plan.
 pub only_plan : (text : NetText) (plan : Network) → Holds own_kinds lone_bytes text plan → plan ≡ lone
-only_plan text plan is =
-    same_plan plan lone (file_once (table_with own_kinds) lone_bytes (Ok (Ok plan)) (Ok (Ok lone)) (text, is.spelled, is.comes) (lone_value, holds.spelled, holds.comes))
+only_plan text plan is = one-plan own_kinds lone_bytes text lone_value plan lone is holds
 
 the-text : HasText lone 0 0
 the-text = record { process = lone_process; place = 0; text = codes "a"; here = refl; given = refl }
@@ -159,6 +162,7 @@ options = record {
   fits = λ p k i q text h given. given-none p k q (i, text) h given;
   each_option = λ p i needs. no-option needs.port.row (stream-row p i needs.port.table needs.port.row needs.port.here needs.port.at) needs.port.option;
   one_option = λ p k l i q text other h a b. given-none p k q (i, text) h a;
+  templates = templates;
 }
 
 rows : HasRows lone
@@ -191,7 +195,7 @@ valid = record {
 of-kind : (p : ℕ) (x : Process) (table : PortTable) → slice_get lone.processes p ≡ Some x → slice_get lone.tables p ≡ Some table → IsOfKind (table_with own_kinds) x table
 of-kind p x table hx ht =
     at_one (λ k (y : Process). slice_get lone.tables k ≡ Some table → IsOfKind (table_with own_kinds) y table) lone_process
-    (λ h. subst (λ (t : PortTable). IsOfKind (table_with own_kinds) lone_process t) (sym (table-is 0 table h)) (record { place = 24; kind = lone_kind; here = refl; name = refl; inputs = refl; outputs = refl }))
+    (λ h. subst (λ (t : PortTable). IsOfKind (table_with own_kinds) lone_process t) (sym (table-is 0 table h)) (record { place = 29; kind = lone_kind; here = refl; name = refl; inputs = refl; outputs = refl }))
     p x hx ht
 
 pub over : IsOver (table_with own_kinds) lone

@@ -1,9 +1,11 @@
 -- The first network is the plan of its text: what the calls of a builder make of it, one after another.
 use Rattle.std.proofs.Common.{ℕ, zero, suc, None, Ok, codes, refl, arith}
+use Rattle.std.proofs.lemmas.List.Elements.{All-nil}
 use Rattle.flow_net.specs.declared.draft.End.{End}
 use Rattle.flow_net.specs.Drafts.{Draft}
 use Rattle.flow_net.specs.Calls.{with_process, joined, given}
 use Rattle.flow_plan.specs.Texts.{IsFileName}
+use Rattle.flow_plan.specs.Templates.{Fits, TemplatesFit}
 use Rattle.flow_flat.specs.Faults.{ComesTo}
 use Rattle.flow_flat.specs.Told.{HasShortTexts, IsDraft, empty}
 use Rattle.flow_flat.proofs.Outcomes.{told_is_said}
@@ -52,6 +54,10 @@ short (suc (suc zero)) d below = tt
 short (suc (suc (suc zero))) d below = omega arith
 short (suc (suc (suc (suc k)))) d below = absurd (omega (arith, below))
 
+-- No text of it is a template.
+templates : TemplatesFit first_network
+templates = All-nil Fits
+
 -- The first network comes to its plan.
 pub planned : ComesTo std_kinds first_component (Ok first_network)
-planned = told_is_said std_kinds first_component (Ok first_network) refl short (Ok with_output, drafted, refl)
+planned = told_is_said std_kinds first_component (Ok first_network) refl short (Ok with_output, drafted, (refl, templates, refl))

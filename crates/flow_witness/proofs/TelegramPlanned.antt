@@ -2,10 +2,12 @@
 use Rattle.flow_limits.specs.declared.TheConstants.{TEXT_LIMIT}
 use Rattle.std.proofs.Common.{ℕ, zero, suc, Some, None, Ok, refl, arith}
 use Rattle.std.specs.Prelude.{codes}
+use Rattle.std.proofs.lemmas.List.Elements.{All-nil}
 use Rattle.flow_net.specs.declared.draft.End.{End}
 use Rattle.flow_net.specs.Drafts.{Draft}
 use Rattle.flow_net.specs.Calls.{with_process, joined, given}
 use Rattle.flow_plan.specs.Texts.{IsFileName, IsNumberWithin}
+use Rattle.flow_plan.specs.Templates.{Fits, TemplatesFit}
 use Rattle.flow_flat.specs.Faults.{ComesTo}
 use Rattle.flow_flat.specs.Told.{HasShortTexts, IsDraft, empty}
 use Rattle.flow_flat.proofs.Outcomes.{told_is_said}
@@ -69,6 +71,10 @@ short (suc (suc (suc (suc zero)))) d below = tt
 short (suc (suc (suc (suc (suc zero))))) d below = omega arith
 short (suc (suc (suc (suc (suc (suc k)))))) d below = absurd (omega (arith, below))
 
+-- No text of it is a template.
+templates : TemplatesFit telegram
+templates = All-nil Fits
+
 -- The worked network comes to its plan.
 pub planned : ComesTo std_kinds telegram_component (Ok telegram)
-planned = told_is_said std_kinds telegram_component (Ok telegram) refl short (Ok with_output, drafted, refl)
+planned = told_is_said std_kinds telegram_component (Ok telegram) refl short (Ok with_output, drafted, (refl, templates, refl))
