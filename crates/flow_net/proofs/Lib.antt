@@ -28,3 +28,4 @@ pub mod Overs
 pub mod InitialTexts
 pub mod Needs
 pub mod Validity
+pub mod TemplateChecks

@@ -1,6 +1,6 @@
 -- The options and the rows of the plan of a sound draft without a fault.
 use Rattle.flow_limits.specs.declared.TheConstants.{TEXT_LIMIT}
-use Rattle.std.proofs.Common.{◌≡◌, ℕ, ◌<◌, ◌≤◌, List, Option, Some, Ok, Bool, true, false, map, ap, sym, ◌∙◌, subst, inl, inr, ◌⊎◌, slice_get, length, take, arith}
+use Rattle.std.proofs.Common.{◌≡◌, ℕ, ◌<◌, ◌≤◌, List, Option, Some, Ok, Bool, true, false, map, ap, sym, ◌∙◌, subst, slice_get, length, take, arith}
 use Rattle.std.specs.Prelude.{◌==◌, ◌&&◌, if◌then◌else◌, codes}
 use Rattle.std.specs.Option.{option_map, option_map_or, option_and_then}
 use Rattle.std.specs.List.{sum_by}
@@ -18,6 +18,7 @@ use Rattle.flow_plan.specs.Network.{Network, is_stream}
 use Rattle.flow_net.specs.Drafts.{Draft, binding_at, is_free, is_side, is_stream_at, is_stream_port, same}
 use Rattle.flow_net.specs.Calls.{process_at, room_of, takes_text}
 use Rattle.flow_plan.specs.Texts.{IsOfClass}
+use Rattle.flow_plan.specs.Templates.{TemplatesFit}
 use Rattle.flow_net.specs.Options.{FitsPort}
 use Rattle.flow_net.specs.Sound.{IsSound, on_side, text_at, is_input_at}
 use Rattle.flow_net.specs.Finishes.{first_fault, name_of, place_at, process_of, plan_of, row_of, rows_of, front, table_of}
@@ -244,5 +245,5 @@ module _ (draft : Draft) (sound : IsSound draft) (u : Unit {0}) (whole : first_f
             given = there.1 ∙ ap (λ (m : ℕ). Some (m, has_text.0.1)) (ap (place_at draft.ports) has_text.2 ∙ place);
           }
 
-  pub HasOptions-plan : HasOptions (plan_of draft)
-  HasOptions-plan = record { fits = fits; each_option = each_option; one_option = one_option }
+  pub HasOptions-plan : TemplatesFit (plan_of draft) → HasOptions (plan_of draft)
+  HasOptions-plan templates = record { fits = fits; each_option = each_option; one_option = one_option; templates = templates }

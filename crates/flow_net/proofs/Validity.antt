@@ -26,6 +26,7 @@ use Rattle.flow_net.specs.Drafts.{Draft, ◌>>=◌, binding_at, is_free, is_side
 use Rattle.flow_net.specs.Calls.{process_at}
 use Rattle.flow_net.specs.Sound.{IsSound, into_of, sender_at, text_at, is_input_at}
 use Rattle.flow_net.specs.Finishes.{first_fault, sum_fault, draft_fault, name_of, count_of, counted, number_of, total_of, sender_of, connection_of, process_of, plan_of, capacity_of, rows_of, table_of}
+use Rattle.flow_plan.specs.Templates.{TemplatesFit}
 use Rattle.flow_plan.specs.Valid.{IsValid, HasConnection, HasText, HasSender, NeedsOutput, needs_of}
 use Rattle.flow_net.proofs.Wiring.{same_end}
 use Rattle.flow_net.proofs.Steps.{map_some, then_some}
@@ -35,7 +36,6 @@ use Rattle.flow_net.proofs.Placed.{capacity_of-small}
 use Rattle.flow_net.proofs.Laying.{LaidOut-plan}
 use Rattle.flow_net.proofs.Lasts.{get-flat-front, Closes, closes-kind, count-automatic, last-number, not-last}
 use Rattle.flow_net.specs.Kinds.{automatic, takes_texts}
-use Rattle.flow_plan.specs.declared.kind.PortSpec.{PortSpec}
 use Rattle.flow_plan.specs.declared.plan.PortRow.{PortRow}
 use Rattle.flow_net.proofs.Numbers.{number_at, number-within, number-same, Numbered, number-each}
 use Rattle.flow_net.proofs.Rows.{mapped}
@@ -370,8 +370,8 @@ module _ (draft : Draft) (sound : IsSound draft) (u : Unit {0}) (whole : draft_f
             (subst (λ (m : ℕ). i < total_of draft.ports m true - 1) (sym (sound.numbers p process.0 process.1)) (omega (arith, below, sided.1, located.number, from.2.number))),
       )
 
-  pub IsValid-plan : IsValid (plan_of draft)
-  IsValid-plan = record {
+  pub IsValid-plan : TemplatesFit (plan_of draft) → IsValid (plan_of draft)
+  IsValid-plan templates = record {
     wired = record {
       few_processes = omega (arith, length-map draft.processes (process_of draft.ports), sound.few_processes);
       few_connections = omega (arith, length-map draft.links (connection_of draft.ports), sound.few_links);
@@ -392,12 +392,12 @@ module _ (draft : Draft) (sound : IsSound draft) (u : Unit {0}) (whole : draft_f
     one_text = one_text;
     needed_outputs = needed_outputs;
     capacity_sum = capacity_sum;
-    options = HasOptions-plan draft sound ports_whole.0 ports_whole.1;
+    options = HasOptions-plan draft sound ports_whole.0 ports_whole.1 templates;
     rows = HasRows-plan draft sound ports_whole.0 ports_whole.1;
   }
 
--- a network that was made of the parts of a sound draft without a fault is valid
-pub IsValid-made : (draft : Draft) (u v : Unit {0}) (processes : List Process) (connections : List Connection) (tables : List PortTable) → IsSound draft → first_fault draft.processes draft.ports ≡ Ok u → sum_fault draft.links ≡ Ok v → processes ≡ map (process_of draft.ports) draft.processes → connections ≡ map (connection_of draft.ports) draft.links → tables ≡ map (table_of draft.ports) draft.processes → IsValid (record { processes = processes; connections = connections; tables = tables })
-IsValid-made draft u v processes connections tables sound first sum processes_are connections_are tables_are =
+-- a network that is the plan of a sound draft without a fault is valid, where its templates are such for their patterns
+pub IsValid-made : (draft : Draft) (u v : Unit {0}) (made : Network) → IsSound draft → first_fault draft.processes draft.ports ≡ Ok u → sum_fault draft.links ≡ Ok v → made ≡ plan_of draft → TemplatesFit made → IsValid made
+IsValid-made draft u v made sound first sum is templates =
     let whole : draft_fault draft ≡ Ok v = ap (λ (r : Result (Unit {0}) PlanFault). r >>= λ none. sum_fault draft.links) first ∙ sum in
-    rw (processes_are, connections_are, tables_are) (IsValid-plan draft sound v whole)
+    subst IsValid (sym is) (IsValid-plan draft sound v whole (subst TemplatesFit is templates))

@@ -1,9 +1,7 @@
 //! Whether the templates of a plan are such for their patterns.
-ghost use Rattle.std.specs.Prelude.{◌≡◌, ◌↔◌, ℕ, List, IfOk, IsTrue, slice_get, option_map};
-ghost use Rattle.std.specs.List.{All};
-ghost use Rattle.flow_plan.specs.Network.{Network};
+ghost use Rattle.std.specs.Prelude.{◌≡◌, ◌↔◌, None, IfOk, IsTrue, option_map};
 ghost use Rattle.flow_plan.specs.Texts.{IsTemplateFor};
-ghost use Rattle.flow_plan.specs.Templates.{Fits, given_at, template_of, templates_in};
+ghost use Rattle.flow_plan.specs.Templates.{given_at};
 ghost use Rattle.flow_net.specs.Finishes.{HaveTemplates, RowsHaveTemplates, RowHasTemplate};
 
 use crate::fault::{PlanFault, PlanStop};
@@ -13,14 +11,14 @@ use flow_plan::{PortClass, PortRef, PortRow, PortTable, Process};
 use std::alloc::{AllocError, Global};
 
 // The text that the option port at this place is given.
-fn given_at(process: &Process, place: u32) -> Option<&[u8]>
+fn given_at(process: &Process, place: usize) -> Option<&[u8]>
     ensures { option_map (λ text. text.now) result ≡ given_at place process.now.options }
 {
     let given = process
         .options
         .as_slice()
         .iter()
-        .find(|option| option.0 == place);
+        .find(|option| option.0 as usize == place);
     match given {
         Some(option) => Some(option.1.as_slice()),
         None => None,
@@ -29,19 +27,16 @@ fn given_at(process: &Process, place: u32) -> Option<&[u8]>
 
 // Whether a text is a template for this pattern. To read them takes memory.
 fn is_template_for(alloc: Global, pattern: Option<&[u8]>, text: &[u8]) -> Result<bool, AllocError>
-    ensures { IfOk result (λ is. IsTrue is ↔ IsTemplateFor (option_map (λ pattern. pattern.now) pattern) text.now) }
+    ensures { IfOk result (λ is. IsTrue is ↔ IsTemplateFor (option_map (λ pattern. pattern.now) pattern.entry) text.now) }
 {
-    let Some(pattern) = pattern else {
-        return Ok(false);
-    };
-    if !is_pattern(alloc, pattern)? {
-        return Ok(false);
+    match pattern {
+        None => Ok(false),
+        Some(pattern) => Ok(is_pattern(alloc, pattern)? && is_template(alloc, pattern, text)?),
     }
-    is_template(alloc, pattern, text)
 }
 
 fn unfit(alloc: Global, process: &Process, row: &PortRow) -> Result<PlanFault, AllocError>
-    ensures { IfOk result (λ fault. fault ≡ PlanFault.BadOption process.now.name (record { name = row.now.spec.name; element = Option.None })) }
+    ensures { IfOk result (λ fault. fault ≡ PlanFault.BadOption process.now.name (record { name = row.now.spec.name; element = None })) }
 {
     let name = process.name.copy(alloc)?;
     let port = PortRef {
@@ -52,7 +47,7 @@ fn unfit(alloc: Global, process: &Process, row: &PortRow) -> Result<PlanFault, A
 }
 
 // That the port at this place, which stands in this row, is given none but a template for its pattern.
-fn check_row(alloc: Global, process: &Process, place: u32, row: &PortRow) -> Result<(), PlanStop>
+fn check_row(alloc: Global, process: &Process, place: usize, row: &PortRow) -> Result<(), PlanStop>
     ensures { RowHasTemplate process.now place row.now result }
 {
     let PortClass::Template { pattern } = row.spec.class else {
@@ -61,7 +56,7 @@ fn check_row(alloc: Global, process: &Process, place: u32, row: &PortRow) -> Res
     let Some(text) = given_at(process, place) else {
         return Ok(());
     };
-    if is_template_for(alloc, given_at(process, pattern), text)? {
+    if is_template_for(alloc, given_at(process, pattern as usize), text)? {
         return Ok(());
     }
     let fault = unfit(alloc, process, row)?;
@@ -72,7 +67,7 @@ fn check_rows(alloc: Global, process: &Process, rows: &[PortRow]) -> Result<(), 
     ensures { RowsHaveTemplates process.now rows.now result }
 {
     for (place, row) in rows.iter().enumerate() {
-        check_row(alloc, process, place as u32, row)?;
+        check_row(alloc, process, place, row)?;
     }
     Ok(())
 }

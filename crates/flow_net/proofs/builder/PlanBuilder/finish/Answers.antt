@@ -1,10 +1,13 @@
-use Rattle.std.proofs.Common.{◌≡◌, Ok, ◌∙◌, ap, sym, subst, List, length, slice_get, map}
+use Rattle.std.proofs.Common.{◌≡◌, Ok, refl, ◌∙◌, ap, sym, subst, List, length, slice_get, map}
 use Rattle.flow_net.specs.declared.draft.DraftPort.{DraftPort}
 use Rattle.flow_net.specs.declared.draft.Link.{Link}
 use Rattle.flow_net.specs.Drafts.{Draft}
 use Rattle.flow_net.specs.Over.{IsOver}
 use Rattle.flow_net.specs.Sound.{IsPlaced, into_of, sender_at}
-use Rattle.flow_net.specs.Finishes.{count_of, process_of, table_of, connection_of, first_fault, sum_fault}
+use Rattle.flow_net.specs.Finishes.{count_of, process_of, table_of, connection_of, first_fault, sum_fault, plan_of, HaveTemplates}
+use Rattle.flow_plan.specs.declared.plan.Process.{Process}
+use Rattle.flow_plan.specs.declared.plan.Connection.{Connection}
+use Rattle.flow_plan.specs.declared.plan.PortTable.{PortTable}
 use Rattle.flow_plan.specs.Network.{Network}
 use Rattle.flow_net.proofs.Validity.{IsValid-made}
 use Rattle.flow_net.proofs.Overs.{IsOver-made}
@@ -42,8 +45,13 @@ of-draft-requires-clause-few c =
     let made = c.in_ok-counts.ensures in
     counts-few (length c.self.inside.processes.items) c.self.inside.ports.items c.as_slice-2.result.now c.self.invariant.ports (c.as_slice-2.ensures.value ∙ made ∙ ap (map count_of) c.as_slice-ports.ensures.value)
 
+-- the parts that were made are the plan's
+made_is : (draft : Draft) (processes : List Process) (connections : List Connection) (tables : List PortTable) → processes ≡ map (process_of draft.ports) draft.processes → connections ≡ map (connection_of draft.ports) draft.links → tables ≡ map (table_of draft.ports) draft.processes → ◌≡◌ {A = Network} (record { processes = processes; connections = connections; tables = tables }) (plan_of draft)
+made_is draft processes connections tables are also too = rw (are, also, too) refl
+
 pub new-requires : goal.new-requires
 new-requires c =
+    let draft : Draft = record { kinds = c.self.inside.kinds.items; processes = c.self.inside.processes.items; ports = c.self.inside.ports.items; links = c.self.inside.links.items } in
     let first : first_fault c.self.inside.processes.items c.self.inside.ports.items ≡ Ok c.in_ok-check_ports.field-0 =
     rw (sym c.as_slice.ensures.value, sym c.as_slice-ports.ensures.value) c.in_ok-check_ports.ensures in
     let sum : sum_fault c.self.inside.links.items ≡ Ok c.in_ok-check_sum.field-0 = rw (sym c.as_slice-links.ensures.value) c.in_ok-check_sum.ensures in
@@ -53,8 +61,9 @@ new-requires c =
     rw (sym c.as_slice-links.ensures.value, sym c.as_slice-ports.ensures.value, sym c.of-draft.ensures) c.in_ok-connections.ensures in
     let tables : c.in_ok-tables.tables.items ≡ map (table_of c.self.inside.ports.items) c.self.inside.processes.items =
     rw (sym c.as_slice-3.ensures.value, sym c.as_slice-ports.ensures.value) c.in_ok-tables.ensures in
-    IsValid-made (record { kinds = c.self.inside.kinds.items; processes = c.self.inside.processes.items; ports = c.self.inside.ports.items; links = c.self.inside.links.items })
-    c.in_ok-check_ports.field-0 c.in_ok-check_sum.field-0 c.in_ok-processes.processes.items c.in_ok-connections.connections.items c.in_ok-tables.tables.items c.self.invariant first sum processes connections tables
+    let templates : HaveTemplates c.in_ok-processes.processes.items c.in_ok-tables.tables.items (Ok tt) = rw (sym c.as_slice-4.ensures.value, sym c.as_slice-5.ensures.value) c.in_ok-check_templates.ensures in
+    IsValid-made draft c.in_ok-check_ports.field-0 c.in_ok-check_sum.field-0 _ c.self.invariant first sum
+    (made_is draft c.in_ok-processes.processes.items c.in_ok-connections.connections.items c.in_ok-tables.tables.items processes connections tables) templates
 
 pub returns-clause-over : goal.returns-clause-over
 returns-clause-over c =
