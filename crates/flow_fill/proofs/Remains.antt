@@ -1,9 +1,7 @@
 -- What is left of version 3 in a filled file: its header, and no word.
-use Rattle.std.proofs.Common.{◌≡◌, ℕ, ◌+◌, suc, take, Bool, true, false, cond, List, [], ◌∷◌, ◌++◌, length, Option, Some, None, refl, sym, ap, ◌∙◌}
+use Rattle.std.proofs.Common.{◌≡◌, ℕ, ◌+◌, suc, Bool, true, false, cond, List, [], ◌∷◌, ◌++◌, length, Option, Some, None, refl, sym, ap, ◌∙◌}
 use Rattle.std.specs.Prelude.{codes, is_none, option_and_then, option_map}
-use Rattle.std.specs.List.{AllByRecursion, position, position_from, prefix_len}
-use Rattle.std.proofs.lemmas.Bool.{eqb-true}
-use Rattle.flow_parse.specs.Spelling.{is_word_byte}
+use Rattle.std.specs.List.{AllByRecursion, position, position_from}
 use Rattle.std.specs.Str.{bytes_eq}
 use Rattle.std.proofs.lemmas.Iterator.Adapters.{position_from-zero}
 use Rattle.std.proofs.lemmas.Slice.Eq.{bytes_eq-Decides}
@@ -14,7 +12,7 @@ use Rattle.flow_fill.specs.declared.word.Given.{Given}
 use Rattle.flow_fill.specs.declared.word.FileWord.{FileWord}
 use Rattle.flow_fill.specs.declared.fault.FillFault.{FillFault}
 use Rattle.flow_fill.specs.declared.fault.FillFault.TheVariants.{NoText}
-use Rattle.flow_fill.specs.Reading.{alone, begins_remark, begins_with, behind_blanks, behind_word, beside_at, is_header, is_remark, quoted_at, use_line, word_at, word_line, word_line_of}
+use Rattle.flow_fill.specs.Reading.{alone, begins_with, behind_word, beside_at, is_header, is_remark, quoted_at, use_line, word_at, word_line, word_line_of}
 use Rattle.flow_fill.specs.Filling.{filled_line, filled_lines, is_third, place_after, texted_line, text_for, used_line, word_of, worded_line, words_from, words_in}
 use Rattle.flow_fill.specs.Faults.{is_textless, missing}
 use Rattle.flow_fill.specs.Laws.{AFilledFileHasNoWords, LinesKeepTheirPlaces, OtherLinesStay}
@@ -131,7 +129,7 @@ head_done given n m (line ∷ more) third all = by (is_remark line) (is_header l
   by : (v w : Bool) → (is_third more ≡ true → AllTexted given (words_from (suc n) Head more) → (words_from (suc m) Head (filled_lines Head given more) ≡ []) × (is_third (filled_lines Head given more) ≡ true))
       → (AllTexted given (words_from (suc n) Main more) → words_from (suc m) Main (filled_lines Main given more) ≡ []) → cond v (is_third more) w ≡ true
       → AllTexted given (words_from (suc n) (cond v Head (cond w Main Other)) more)
-      → (words_from (suc m) (cond v Head (cond w Main Other)) (filled_lines (cond v Head (cond w Main Other)) given more) ≡ []) × (cond v (is_third (filled_lines Head given more)) w ≡ true)
+      → (words_from (suc m) (cond v Head (cond w Main Other)) (filled_lines (cond v Head (cond w Main Other)) given more) ≡ []) × (cond v (is_third (filled_lines (cond v Head (cond w Main Other)) given more)) w ≡ true)
   by true w again main t a = again t a
   by false true again main t a = (main a, refl)
   by false false again main t a = absurd cc
