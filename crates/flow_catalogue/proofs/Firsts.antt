@@ -1,5 +1,5 @@
 -- The component of a process of a standard kind, in its first state, fits the process.
-use Rattle.std.proofs.Common.{◌≡◌, ℕ, zero, suc, ◌+◌, ◌<◌, Bool, true, false, List, [], map, Some, refl, sym, ◌∙◌, subst, arith, slice_get, nat_eq, nat_lt}
+use Rattle.std.proofs.Common.{◌≡◌, ℕ, zero, suc, ◌+◌, ◌<◌, Bool, true, false, List, [], map, Some, None, refl, sym, ◌∙◌, subst, arith, slice_get, nat_eq, nat_lt}
 use Rattle.std.specs.Prelude.{IsTrue, if◌then◌else◌}
 use Rattle.std.proofs.lemmas.Bool.{false≢true}
 use Rattle.std.specs.List.{range_with_len}
@@ -15,6 +15,7 @@ use Rattle.flow_parts.specs.Meanings.{fresh_count}
 use Rattle.flow_streams.specs.declared.select.SelectPlace.TheVariants.{Waiting}
 use Rattle.flow_streams.specs.Select.{select_uses}
 use Rattle.flow_pick.specs.Picking.{parting_uses}
+use Rattle.flow_map.specs.Mapping.{mapper_uses}
 use Rattle.flow_batch.specs.Update.{update_uses}
 use Rattle.flow_batch.specs.Updated.{fresh_update}
 use Rattle.flow_match.specs.Match.{match_uses}
@@ -74,6 +75,12 @@ parting-used network p has zero used = has
 parting-used network p has (suc zero) used = connected-sends network p 1 used
 parting-used network p has (suc (suc o)) used = absurd (other-than o 0 1 (omega arith) (omega arith) (is_connected network p 1) used)
 
+-- and one that maps, and has no second output
+mapped-used : (network : Network) (p : ℕ) → HasSender network p 0 → (o : ℕ) → IsTrue (mapper_uses None o) → HasSender network p o
+mapped-used network p has zero used = has
+mapped-used network p has (suc zero) used = absurd (false≢true used)
+mapped-used network p has (suc (suc o)) used = absurd (other-than o 0 1 (omega arith) (omega arith) false used)
+
 match-used : (network : Network) (p : ℕ) (pattern : List ℕ) → HasSender network p 0 → (o : ℕ) → IsTrue (match_uses (record { pattern = pattern; rejects = is_connected network p 1 }) o) → HasSender network p o
 match-used network p pattern has zero used = has
 match-used network p pattern has (suc zero) used = connected-sends network p 1 used
@@ -110,8 +117,8 @@ first-fits n p x kinds.Tail file is = record { inputs = sym is.inputs; outputs =
 first-fits n p x kinds.Match file is = record { inputs = sym is.inputs; outputs = sym is.outputs; uses = match-used n p (option_text 0 x.options) (is.needed 0 refl); starts = λ held none. none }
 first-fits n p x kinds.Replace file is = record { inputs = sym is.inputs; outputs = sym is.outputs; uses = first-used n p (is.needed 0 refl); starts = λ held none. none }
 first-fits n p x kinds.Sort file is = record { inputs = sym is.inputs; outputs = sym is.outputs; uses = first-used n p (is.needed 0 refl); starts = λ held none. (tt, none) }
-first-fits n p x kinds.Find file is = record { inputs = sym is.inputs; outputs = sym is.outputs; uses = first-used n p (is.needed 0 refl); starts = λ held none. (tt, none) }
-first-fits n p x kinds.Split file is = record { inputs = sym is.inputs; outputs = sym is.outputs; uses = first-used n p (is.needed 0 refl); starts = λ held none. (tt, none) }
+first-fits n p x kinds.Find file is = record { inputs = sym is.inputs; outputs = sym is.outputs; uses = mapped-used n p (is.needed 0 refl); starts = λ held none. (tt, none) }
+first-fits n p x kinds.Split file is = record { inputs = sym is.inputs; outputs = sym is.outputs; uses = mapped-used n p (is.needed 0 refl); starts = λ held none. (tt, none) }
 first-fits n p x kinds.Rewrite file is = record { inputs = sym is.inputs; outputs = sym is.outputs; uses = parting-used n p (is.needed 0 refl); starts = λ held none. (tt, none) }
 first-fits n p x kinds.Glue file is = record { inputs = sym is.inputs; outputs = sym is.outputs; uses = first-used n p (is.needed 0 refl); starts = λ held none. (tt, none) }
 first-fits n p x kinds.Where file is = record { inputs = sym is.inputs; outputs = sym is.outputs; uses = parting-used n p (is.needed 0 refl); starts = λ held none. none }

@@ -1,14 +1,16 @@
 -- The options of a process, by the places of their ports in the row of its kind.
-use Rattle.std.proofs.Common.{◌≡◌, ℕ, zero, suc, Bool, true, false, List, [], ◌∷◌, Option, Some, None, refl, sym, ◌∙◌, ap, subst, inl, inr, ◌⊎◌, slice_get}
+use Rattle.flow_limits.specs.declared.TheConstants.{TEXT_LIMIT}
+use Rattle.std.proofs.Common.{◌≡◌, ℕ, zero, suc, ◌≤◌, Bool, true, false, List, [], ◌∷◌, length, Option, Some, None, refl, sym, ◌∙◌, ap, subst, inl, inr, ◌⊎◌, arith, slice_get}
 use Rattle.std.specs.Prelude.{◌==◌, find, if◌then◌else◌, option_map, unwrap_or}
 use Rattle.std.proofs.lemmas.Bool.{false≢true}
 use Rattle.flow_plan.specs.declared.kind.PortSpec.{PortSpec}
-use Rattle.flow_plan.specs.declared.kind.PortClass.TheVariants.{File}
+use Rattle.flow_pattern.specs.Template.{IsTemplate}
+use Rattle.flow_plan.specs.declared.kind.PortClass.TheVariants.{File, Template}
 use Rattle.flow_plan.specs.declared.plan.Process.{Process}
 use Rattle.flow_plan.specs.declared.plan.PortRow.{PortRow}
 use Rattle.flow_plan.specs.declared.plan.PortTable.{PortTable}
 use Rattle.flow_plan.specs.Network.{Network, is_stream}
-use Rattle.flow_plan.specs.Texts.{IsOfClass, IsFileName}
+use Rattle.flow_plan.specs.Texts.{IsOfClass, IsFileName, IsTemplateFor}
 use Rattle.flow_plan.specs.Valid.{IsValid, FitsOption}
 use Rattle.flow_net.specs.Over.{entries}
 use Rattle.flow_net.proofs.Ends.{eqb_true}
@@ -17,6 +19,7 @@ use Rattle.flow_net.proofs.Rows.{mapped}
 use Rattle.flow_catalogue.specs.Rows.{HasOptions, IsGiven, option_at, option_port}
 use Rattle.flow_catalogue.specs.Processes.{option_text}
 use Rattle.flow_catalogue.proofs.Tables.{only-option}
+use Rattle.flow_catalogue.proofs.Templates.{fits-its-pattern}
 
 -- the text that is found for a place stands among the options
 from-option : (place : ℕ) (options : List (ℕ × List ℕ)) (text : List ℕ) → option_at place options ≡ Some text → (k : ℕ) × (slice_get options k ≡ Some (place, text))
@@ -53,6 +56,9 @@ has-options n p x table specs valid there here is = record {
       let fits = valid.options.fits p k place x text there given in
       (fits.port.row.spec, at-place place fits.port.row (own-row place text fits), fits.port.option);
   short = λ k place text given. (valid.options.fits p k place x text there given).short;
+  templates = λ place pattern spec text at class given.
+      let row = row-at place spec at in
+      fits-its-pattern n p place pattern x table row.0 text valid.options.templates there here row.1 (ap (λ (s : PortSpec). s.class) row.2 ∙ class) given;
   once = λ k l place text other given too. valid.options.one_option p k l place x text other there given too;
 }
   where
@@ -64,15 +70,16 @@ has-options n p x table specs valid there here is = record {
     at-place : (place : ℕ) (row : PortRow) → slice_get table.inputs place ≡ Some row → slice_get specs place ≡ Some row.spec
     at-place place row at = ap (λ (l : List PortSpec). slice_get l place) (sym is) ∙ Rattle.std.proofs.lemmas.Option.slice_get-map (λ (r : PortRow). r.spec) table.inputs place ∙ ap (option_map (λ (r : PortRow). r.spec)) at
 
+    row-at : (place : ℕ) (spec : PortSpec) → slice_get specs place ≡ Some spec → (row : PortRow) × (slice_get table.inputs place ≡ Some row) × (row.spec ≡ spec)
+    row-at place spec at = mapped (λ (r : PortRow). r.spec) table.inputs place spec (ap (λ (l : List PortSpec). slice_get l place) is ∙ at)
+
     each : (place : ℕ) (spec : PortSpec) → slice_get specs place ≡ Some spec → is_stream spec.class ≡ false → (given : Option (List ℕ)) → option_at place x.options ≡ given → IsGiven spec given
     each place spec at option None none = by spec.needed refl
       where
-        row : (r : PortRow) × (slice_get table.inputs place ≡ Some r) × (r.spec ≡ spec)
-        row = mapped (λ (r : PortRow). r.spec) table.inputs place spec (ap (λ (l : List PortSpec). slice_get l place) is ∙ at)
-
         by : (needed : Bool) → spec.needed ≡ needed → needed ≡ false
         by false need = refl
         by true need =
+            let row = row-at place spec at in
             let has = valid.options.each_option p place (record {
               port = record { table = table; row = row.0; here = here; at = row.1; option = ap (λ (s : PortSpec). is_stream s.class) row.2 ∙ option };
               needed = ap (λ (s : PortSpec). s.needed) row.2 ∙ need;
@@ -101,6 +108,34 @@ any-text specs options place spec has at option = by (option_at place options) (
     by : (given : Option (List ℕ)) → IsGiven spec given → (unwrap_or given [] ≡ []) ⊎ IsOfClass spec.class (unwrap_or given [])
     by None none = inl refl
     by (Some text) is = inr is
+
+-- The text of an option port is no longer than a packet's may be.
+pub short-text : (specs : List PortSpec) (options : List (ℕ × List ℕ)) (place : ℕ) → HasOptions specs options → length (option_text place options) ≤ TEXT_LIMIT
+short-text specs options place has = by (option_at place options) refl
+  where
+    by : (given : Option (List ℕ)) → option_at place options ≡ given → length (unwrap_or given []) ≤ TEXT_LIMIT
+    by None is = omega arith
+    by (Some text) is = let from = from-option place options text is in has.short from.0 place text from.1
+
+-- The text of an option port for templates is left out, or a template for the text of the pattern's port.
+pub any-template : (specs : List PortSpec) (options : List (ℕ × List ℕ)) (place pattern : ℕ) (spec : PortSpec) → HasOptions specs options → slice_get specs place ≡ Some spec → spec.class ≡ Template pattern
+    → (option_at place options ≡ None) ⊎ IsTemplate (option_text pattern options) (option_text place options)
+any-template specs options place pattern spec has at class = by (option_at place options) refl
+  where
+    for : (pattern : Option (List ℕ)) (text : List ℕ) → IsTemplateFor pattern text → IsTemplate (unwrap_or pattern []) text
+    for None text is = absurd is
+    for (Some pattern) text is = is.1
+
+    by : (given : Option (List ℕ)) → option_at place options ≡ given → (given ≡ None) ⊎ IsTemplate (option_text pattern options) (unwrap_or given [])
+    by None is = inl refl
+    by (Some text) is = inr (for (option_at pattern options) text (has.templates place pattern spec text at class is))
+
+-- Where the row needs it, it is a template.
+pub needed-template : (specs : List PortSpec) (options : List (ℕ × List ℕ)) (place pattern : ℕ) (spec : PortSpec) → HasOptions specs options → slice_get specs place ≡ Some spec → spec.class ≡ Template pattern → spec.needed ≡ true → IsTemplate (option_text pattern options) (option_text place options)
+needed-template specs options place pattern spec has at class needed = elim (any-template specs options place pattern spec has at class) [
+  | inl none ↦ absurd (false≢true (sym (subst (IsGiven spec) none (has.each place spec at (ap is_stream class))) ∙ needed))
+  | inr is ↦ is
+]
 
 -- Where a row's first port takes the name of a file and the others take packets, that name is the only option.
 pub file-option : (name : List ℕ) (streams : List PortSpec) (options : List (ℕ × List ℕ)) → ((place : ℕ) (spec : PortSpec) → slice_get streams place ≡ Some spec → is_stream spec.class ≡ true)

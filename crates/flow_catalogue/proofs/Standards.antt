@@ -1,11 +1,11 @@
 -- A valid plan over a table that begins with the standard kinds has standard processes, and those of the kinds behind them.
 use Rattle.std.specs.Prelude.{◌⊎◌}
-use Rattle.std.proofs.Common.{◌≡◌, ℕ, zero, suc, ◌<◌, ◌++◌, true, List, [], ◌∷◌, length, map, Some, refl, sym, ◌∙◌, ap, subst, inl, inr, slice_get}
+use Rattle.std.proofs.Common.{◌≡◌, ℕ, zero, suc, ◌++◌, true, List, [], ◌∷◌, map, Some, refl, sym, ◌∙◌, ap, subst, inl, inr, slice_get}
 use Rattle.std.specs.List.{list_all}
 use Rattle.flow_plan.specs.declared.kind.KindSpec.{KindSpec}
 use Rattle.flow_plan.specs.declared.plan.Process.{Process}
 use Rattle.flow_plan.specs.Network.{Network}
-use Rattle.flow_net.specs.Over.{IsOver, IsOfKind, entries, carries}
+use Rattle.flow_net.specs.Over.{IsOfKind, entries, carries}
 use Rattle.flow_plan.specs.Valid.{IsValid}
 use Rattle.flow_net.proofs.Ends.{and_true}
 use Rattle.flow_catalogue.specs.declared.table.StdKind.{StdKind}
