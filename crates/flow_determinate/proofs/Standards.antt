@@ -97,7 +97,7 @@ only-balances = record {
 
 first-none : (kind : StdKind) (g : Given) (file : List ℕ) → name_of kind ≢ name_of kinds.LoadBalance → is_balance (first_component kind g file) ≡ false
 first-none kinds.LoadBalance g file other = absurd (other refl)
-first-none kind g file other = refl
+first-none _ g file other = refl
 
 none-balances : (plan : Plan) (ks : List Std) → IsDeterminate plan → AreFirstOf plan ks → NoneMayAsk is_balance ks
 none-balances plan ks determinate are p component at =
