@@ -176,6 +176,14 @@ either-own a b port used is la lb = by (nat_eq port a) refl is
     by true t is = grind (arith, nat_tests)
     by false t is = grind (arith, nat_tests)
 
+-- one that maps, and has no second output
+lone-own : (port : ℕ) → cond (nat_eq port 1) false (nat_eq port 0) ≡ true → port < 1
+lone-own port is = by (nat_eq port 1) is
+  where
+    by : (c : Bool) → cond c false (nat_eq port 0) ≡ true → port < 1
+    by true is = absurd cc
+    by false is = first-own port is
+
 -- A standard component uses its own outputs alone.
 std-own : (component : Std) (port : ℕ) → IsTrue (std_uses component port) → port < (std_shape component).outputs
 std-own (components.ReadLines left) port is = first-own port is
@@ -202,8 +210,8 @@ std-own (components.Tail state) port is = either-own 1 0 port state.rest is (ome
 std-own (components.Match state) port is = either-own 1 0 port state.rejects is (omega arith) (omega arith)
 std-own (components.Replace with) port is = first-own port is
 std-own (components.Sort state) port is = first-own port is
-std-own (components.Find component) port is = first-own port is
-std-own (components.Split component) port is = first-own port is
+std-own (components.Find component) port is = lone-own port is
+std-own (components.Split component) port is = lone-own port is
 std-own (components.Rewrite component) port is = either-own 1 0 port component.own.rest is (omega arith) (omega arith)
 std-own (components.Glue component) port is = first-own port is
 std-own (components.Where state) port is = either-own 1 0 port state.rejects is (omega arith) (omega arith)

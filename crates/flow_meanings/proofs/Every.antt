@@ -73,7 +73,7 @@ first-first kinds.Hoard given file = tt
 first-first kinds.Match given file = tt
 first-first kinds.Replace given file = tt
 first-first kinds.Where given file = tt
-first-first kind given file = refl
+first-first _ given file = refl
 
 -- the component of a process in its first state is so by its meaning too
 pub made-first : (plan : Network) (p : ℕ) (process : Process) (file : List ℕ) (component : Std) → IsMade plan p process file component → IsFirst component
@@ -86,7 +86,7 @@ components-first plan ks are p component at = let is = are p component at in mad
 -- each but a LoadBalance is settled
 first-settled : (kind : StdKind) (given : Given) (file : List ℕ) → name_of kind ≢ name_of kinds.LoadBalance → is_settled (first_component kind given file) ≡ true
 first-settled kinds.LoadBalance given file other = absurd (other refl)
-first-settled kind given file other = refl
+first-settled _ given file other = refl
 
 -- What a component of any kind but LoadBalance sends follows from what it gets.
 pub made-settled : (plan : Network) (p : ℕ) (process : Process) (file : List ℕ) (component : Std) → process.kind ≢ name_of kinds.LoadBalance → IsMade plan p process file component → is_settled component ≡ true

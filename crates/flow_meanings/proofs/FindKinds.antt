@@ -1,11 +1,11 @@
 -- What is known of the kinds that map: Find, Split and Rewrite.
-use Rattle.std.proofs.Common.{◌≡◌, ◌≢◌, ℕ, zero, suc, ◌<◌, ◌==◌, Bool, true, false, List, [], ◌∷◌, ◌++◌, length, if◌then◌else◌, refl, sym, ap, ◌∙◌, subst, arith}
+use Rattle.std.proofs.Common.{◌≡◌, ℕ, zero, suc, ◌<◌, Bool, true, false, List, [], ◌∷◌, ◌++◌, if◌then◌else◌, refl, sym, ap, ◌∙◌, subst, arith}
 use Rattle.std.specs.List.{flat_map}
 use Rattle.flow_packet.specs.Tree.{Tree, kind_of, text_of}
 use Rattle.flow_packet.specs.declared.packet.Kind.{Kind}
 use Rattle.flow_packet.specs.declared.packet.Kind.TheVariants.{Normal, Open, Close}
 use Rattle.flow_component.specs.Happenings.{Happening}
-use Rattle.flow_component.specs.Runs.{EndedRun, HeardEnd}
+use Rattle.flow_component.specs.Runs.{EndedRun}
 use Rattle.flow_pattern.specs.Pattern.{Replacement, matches}
 use Rattle.flow_map.specs.Mapping.{Mapped, waiting}
 use Rattle.flow_map.proofs.MappingEnd.{mapper_hears}

@@ -1,8 +1,7 @@
 -- What is known of Glue.
-use Rattle.std.proofs.Common.{◌≡◌, ◌≢◌, ℕ, zero, suc, ◌<◌, ◌==◌, Bool, true, false, List, [], ◌∷◌, ◌++◌, length, if◌then◌else◌, refl, sym, ap, ◌∙◌, subst, arith}
-use Rattle.flow_packet.specs.Tree.{Tree}
+use Rattle.std.proofs.Common.{◌≡◌, ℕ, List, refl, sym, ap, ◌∙◌, subst, arith}
 use Rattle.flow_component.specs.Happenings.{Happening}
-use Rattle.flow_component.specs.Runs.{EndedRun, HeardEnd}
+use Rattle.flow_component.specs.Runs.{EndedRun}
 use Rattle.flow_fold.specs.declared.folder.Stretch.TheVariants.{Bare}
 use Rattle.flow_fold.specs.Folding.{Folded, beginning, folder_rules}
 use Rattle.flow_fold.specs.Made.{made_of}

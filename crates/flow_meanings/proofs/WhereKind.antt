@@ -1,8 +1,7 @@
 -- What is known of Where.
-use Rattle.std.proofs.Common.{◌≡◌, ◌≢◌, ℕ, zero, suc, ◌<◌, ◌==◌, Bool, true, false, List, [], ◌∷◌, ◌++◌, length, if◌then◌else◌, not, refl, sym, ap, ◌∙◌, subst, arith}
+use Rattle.std.proofs.Common.{◌≡◌, ℕ, zero, suc, ◌<◌, Bool, true, false, List, [], not, refl, sym, ap, ◌∙◌, arith}
 use Rattle.flow_packet.specs.Tree.{Tree}
 use Rattle.flow_component.specs.Happenings.{Happening}
-use Rattle.flow_component.specs.Runs.{EndedRun, HeardEnd}
 use Rattle.std.specs.Prelude.{filter}
 use Rattle.flow_where.specs.Where.{WhereState, where_picker, where_rules}
 use Rattle.flow_where.specs.Meanings.{IsParted, accepts_packet}
