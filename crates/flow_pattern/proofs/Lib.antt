@@ -1,9 +1,9 @@
+pub mod Calling
 pub mod Groups
 pub mod Locating
 pub mod Needed
 pub mod Parts
 pub mod Readings
-pub mod Refilling
 pub mod Replacing
 pub mod Spelling
 pub mod Writing
