@@ -47,7 +47,7 @@ const ROWS: [FillRow; 13] = [
         net: "# r\n\nflow  3 \nsubnet S\ninport A -> IN P(K)\nend\ninport A -> IN Q(S)\nQ OUT -> IN W",
         given: &[("A", "x")],
         wanted: Wanted::Text(
-            "# r\n\nflow 3\nsubnet S\ninport A -> IN P(K)\nend\n'x' -> IN Q(S)\nQ OUT -> IN W\n",
+            "# r\n\nflow  3 \nsubnet S\ninport A -> IN P(K)\nend\n'x' -> IN Q(S)\nQ OUT -> IN W\n",
         ),
     },
     // What is no word's line by its name or its arrow stays, and the file of a `use` leaves an empty line.
@@ -193,7 +193,7 @@ fn subnets_of_used_files_stand_behind(rt: HostRuntime) -> Result<(), Fail> {
     files.push(b"flow 1\nX(K)\nsubnet S\nY(K)\nend\nZ(K)\nsubnet T\nend\r\n".to_vec(alloc)?)?;
     let text = fill(alloc, net, &[])?;
     let joined = join(alloc, &text, &files)?;
-    let wanted = b"flow 2\n\nA(S)\n\n\nsubnet S\nY(K)\nend\n\nsubnet T\nend\n".as_slice();
+    let wanted = b"flow 3\n\nA(S)\n\n\nsubnet S\nY(K)\nend\n\nsubnet T\nend\n".as_slice();
     assert!(rt; joined.as_slice() == wanted);
     Ok(())
 }
