@@ -7,9 +7,8 @@ use Rattle.flow_net.proofs.Ends.{and_true}
 use Rattle.flow_plan.specs.declared.kind.KindSpec.{KindSpec}
 use Rattle.flow_plan.specs.declared.plan.Process.{Process}
 use Rattle.flow_plan.specs.declared.plan.PortTable.{PortTable}
-use Rattle.flow_plan.specs.Network.{Network}
 use Rattle.flow_net.specs.Kinds.{all_differ, is_kind, is_table}
-use Rattle.flow_net.specs.Over.{IsOfKind, IsOver}
+use Rattle.flow_net.specs.Over.{IsOfKind}
 use Rattle.flow_catalogue.specs.declared.table.StdKind.{StdKind}
 use Rattle.flow_catalogue.specs.Kinds.{all_kinds, is_of_version, spec_of, std_kinds}
 use Rattle.flow_offer.specs.Kinds.{AreOwnKinds, is_among, kind_names, table_of, table_with}
