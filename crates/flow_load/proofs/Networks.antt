@@ -1,5 +1,6 @@
 -- A network file's bytes hold one thing, or are refused.
-use Rattle.std.proofs.Common.{◌≡◌, ℕ, List, None, Ok, Err, refl, subst}
+use Rattle.std.proofs.Common.{◌≡◌, ℕ, List, [], None, Ok, Err, refl, sym, subst}
+use Rattle.std.proofs.lemmas.List.{append-nil}
 use Rattle.std.specs.Str.Lines.{lines}
 use Rattle.flow_plan.specs.Network.{Network}
 use Rattle.flow_parse.specs.declared.value.NetText.{NetText}
@@ -8,6 +9,7 @@ use Rattle.flow_parse.proofs.OneOutcome.{one_outcome}
 use Rattle.flow_flat.specs.Texts.{TextComesTo}
 use Rattle.flow_flat.proofs.TextOnce.{text_once}
 use Rattle.flow_plan.specs.declared.kind.KindSpec.{KindSpec}
+use Rattle.flow_catalogue.specs.Kinds.{std_kinds_of}
 use Rattle.flow_offer.specs.Kinds.{table_of}
 use Rattle.flow_load.specs.Networks.{Holds, RefusedFor, ReadsAs}
 use Rattle.flow_load.specs.declared.stop.Stop.{Stop}
@@ -15,8 +17,16 @@ use Rattle.flow_load.specs.declared.stop.Stop.TheVariants.{Words, Refused, NoPar
 use Rattle.flow_load.specs.declared.stop.NetRefusal.{NetRefusal}
 use Rattle.flow_load.specs.declared.stop.NetRefusal.TheVariants as refusals
 
+-- they spell one value
 pub one-text : (net : List ℕ) (a b : NetText) → Spells net a → Spells net b → a ≡ b
 one-text net a b is other = let same = one_outcome 1 None (lines net) (Ok a) (Ok b) is other in cc
+
+-- A plan over the standard kinds alone is what bytes hold for a caller without kinds of its own.
+pub holds-standard : (net : List ℕ) (text : NetText) (plan : Network) → Spells net text → TextComesTo (std_kinds_of text.version) text (Ok plan) → Holds [] net text plan
+holds-standard net text plan spells comes = record {
+  spelled = spells;
+  comes = subst (λ (kinds : List KindSpec). TextComesTo kinds text (Ok plan)) (sym (append-nil (std_kinds_of text.version))) comes;
+}
 
 -- bytes that hold a network aren't refused
 pub holds-or-refused : (own : List KindSpec) (net : List ℕ) (text : NetText) (plan : Network) (refusal : NetRefusal) → Holds own net text plan → RefusedFor own net refusal → ⊥

@@ -1,11 +1,9 @@
 -- The value that the network file spells, and its plan, which is the only one.
 use Rattle.std.proofs.Common.{◌≡◌, ℕ, List, [], ◌∷◌, map, None, Some, Ok, refl, sym, subst}
-use mathlib.Core.List.{append-nil}
 use Rattle.std.specs.Prelude.{codes}
 use Rattle.std.specs.List.{list_any}
 use Rattle.std.specs.Str.{bytes_eq}
 use Rattle.std.specs.Str.Lines.{lines}
-use Rattle.flow_plan.specs.declared.kind.KindSpec.{KindSpec}
 use Rattle.flow_plan.specs.declared.kind.PortRef.{PortRef}
 use Rattle.flow_plan.specs.Network.{Network}
 use Rattle.flow_plan.specs.Texts.{IsFileName}
@@ -23,7 +21,7 @@ use Rattle.flow_flat.specs.Firsts.{AllPass}
 use Rattle.flow_catalogue.specs.Kinds.{std_kinds_of}
 use Rattle.flow_load.specs.Networks.{Holds}
 use Rattle.flow_load.proofs.MadeLines.{Saying, header, connects, connects_element, gives_kinded, lead}
-use Rattle.flow_load.proofs.Networks.{one-plan}
+use Rattle.flow_load.proofs.Networks.{holds-standard, one-plan}
 use Rattle.flow_load.proofs.Passing.{all_pass, all_ok}
 use Rattle.flow_witness.specs.Complete.{network_bytes, balance}
 use Rattle.flow_witness.proofs.BalancePlan.{templates}
@@ -98,7 +96,7 @@ comes = record { said = record { processes = record { ends = ends; processes = i
 
 -- The network file holds this value with this plan.
 pub holds : Holds [] network_bytes balance_value balance
-holds = record { spelled = spelled; comes = subst (λ (kinds : List KindSpec). TextComesTo kinds balance_value (Ok balance)) (sym (append-nil (std_kinds_of 1))) comes }
+holds = holds-standard network_bytes balance_value balance spelled comes
 
 -- It holds no other plan.
 pub only_plan : (text : NetText) (plan : Network) → Holds [] network_bytes text plan → plan ≡ balance
