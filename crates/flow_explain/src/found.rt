@@ -322,6 +322,21 @@ pub fn home_of<'a>(alloc: Global, net: &'a [u8], flat: &'a [u8]) -> Result<Home<
     Ok(Home { part, process })
 }
 
+/// The subnet processes around a process that has this flat name, from the outermost on, and the process itself.
+pub fn homes_of<'a>(
+    alloc: Global,
+    net: &'a [u8],
+    flat: &'a [u8],
+) -> Result<Vec<Home<'a>>, AllocError> {
+    let mut homes = Vec::new(alloc);
+    let mut part = None;
+    for process in flat.split(is_point) {
+        homes.push(Home { part, process })?;
+        part = kind_of(alloc, net, part, process)?;
+    }
+    Ok(homes)
+}
+
 /// The processes of a part that are given a kind, each as often as it is.
 pub fn kinded<'a>(
     alloc: Global,

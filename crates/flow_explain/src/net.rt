@@ -1,10 +1,11 @@
 //! A network file that is explained, beside the table of kinds.
 use crate::found::{
-    Found, Home, Wanted, find_in, home_of, is_port, is_same_part, kind_of, version_in,
+    Found, Home, Wanted, find_in, home_of, homes_of, is_port, is_same_part, kind_of, version_in,
 };
 use crate::kinds::{Side, row};
 use crate::own::OwnKinds;
 use crate::place::{Counted, canonical, fewest, statement};
+use crate::said::Tag;
 use crate::shown::put_line;
 use flow_flat::ExpandFault;
 use flow_plan::KindSpec;
@@ -82,6 +83,29 @@ impl<'a> Net<'a> {
         wanted: &Wanted<'_>,
     ) -> Result<Option<Found<'a>>, AllocError> {
         find_in(self.alloc, self.bytes, home.part, wanted)
+    }
+
+    /// The line that gives its text to this port of the process with this flat name. Where the port is an outer one's, that
+    /// line stands outside of the subnet.
+    pub fn giver(&self, flat: &'a [u8], port: &'a [u8]) -> Result<Option<Found<'a>>, AllocError> {
+        let homes = homes_of(self.alloc, self.bytes, flat)?;
+        let mut port = port;
+        let mut left = homes.len();
+        for _ in 0..homes.len() {
+            left = left.saturating_sub(1);
+            let Some(home) = homes.get(left) else {
+                return Ok(None);
+            };
+            let wanted = Wanted::Port(Side::Input, home.process, port);
+            let Some(found) = self.find(home, &wanted)? else {
+                return Ok(None);
+            };
+            if found.said.tag != Tag::OuterInput {
+                return Ok(Some(found));
+            }
+            port = found.said.name;
+        }
+        Ok(None)
     }
 
     /// The statement at fault, where the fault is one of a statement.

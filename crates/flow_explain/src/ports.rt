@@ -223,7 +223,7 @@ pub fn put_bad_option(
     let wrong = name.name.as_slice();
     if let Some(kind) = net.row(&home)? {
         if let Some((option, pattern)) = template_of(kind, wrong) {
-            return put_bad_template(net, page, &home, option, pattern);
+            return put_bad_template(net, page, process, option, pattern);
         }
     }
     let shown = net.put_statement(page, fault, &home, wrong, Side::Input)?;
@@ -243,24 +243,22 @@ fn template_of<'a>(kind: &'a KindSpec, name: &[u8]) -> Option<(&'a PortSpec, &'a
     Some((option, pattern))
 }
 
-// A text that is no template for its pattern, which is told of a whole network and not of a statement: so its line and that of the pattern are
-// shown.
+// A text that is no template for its pattern, which is told of a whole network and not of a statement: so its line and that
+// of the pattern are shown.
 fn put_bad_template<'a>(
     net: Net<'a>,
     page: &mut String,
-    home: &Home<'a>,
-    option: &PortSpec,
-    pattern: &PortSpec,
+    process: &'a [u8],
+    option: &'a PortSpec,
+    pattern: &'a PortSpec,
 ) -> Result<(), AllocError> {
-    let wanted = Wanted::Port(Side::Input, home.process, option.name.as_slice());
-    let found = net.find(home, &wanted)?;
-    put_if_found(page, found)?;
-    let wanted = Wanted::Port(Side::Input, home.process, pattern.name.as_slice());
-    let with = net.find(home, &wanted)?;
-    put_if_found(page, with)?;
+    let text = net.giver(process, option.name.as_slice())?;
+    put_if_found(page, text)?;
+    let pattern = net.giver(process, pattern.name.as_slice())?;
+    put_if_found(page, pattern)?;
     put_option(page, &option.name, option.class)?;
-    match (with, found) {
-        (Some(with), Some(found)) => put_template_slip(net.alloc, page, &with, &found),
+    match (pattern, text) {
+        (Some(pattern), Some(text)) => put_template_slip(net.alloc, page, &pattern, &text),
         _ => Ok(()),
     }
 }
