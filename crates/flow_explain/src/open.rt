@@ -1,5 +1,5 @@
-//! Outputs that a network leaves open, told where it is only checked: what a process sends there is dropped, and nothing
-//! in a report says where.
+//! Outputs that a network leaves open, told where it is only checked: what a process sends there is dropped, or goes
+//! elsewhere, and nothing in a report says where.
 ghost use Rattle.flow_offer.specs.Kinds.{AreOwnKinds};
 
 use crate::found::{Found, Walk, Wanted, find_in};
@@ -98,7 +98,7 @@ fn put_outputs(
     for output in ports(kind, Side::Output) {
         if is_open(alloc, net, found.part, process, output)? {
             put_found(page, found)?;
-            put_output(page, process, output)?;
+            put_output(page, process, output, instead(kind))?;
         }
     }
     Ok(())
@@ -118,12 +118,21 @@ fn is_open(
     Ok(find_in(alloc, net, part, &wanted)?.is_none())
 }
 
-fn put_output(page: &mut String, process: &[u8], output: &PortSpec) -> Result<(), AllocError> {
+// What becomes of what a process of this kind would send to an output that is left open. A Rewrite loses nothing.
+fn instead(kind: &KindSpec) -> &'static str {
+    if kind.name.as_slice() == b"Rewrite".as_slice() {
+        " is left open: what it would send there goes to OUT.\n"
+    } else {
+        " is left open: what it sends there is dropped.\n"
+    }
+}
+
+fn put_output(
+    page: &mut String,
+    process: &[u8],
+    output: &PortSpec,
+    instead: &str,
+) -> Result<(), AllocError> {
     put_between(page, "The output ", output.name.as_slice(), " of ")?;
-    put_between(
-        page,
-        "",
-        process,
-        " is left open: what it sends there is dropped.\n",
-    )
+    put_between(page, "", process, instead)
 }
