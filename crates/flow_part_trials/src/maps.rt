@@ -1,5 +1,9 @@
 //! What components that map make of texts, worked out by hand.
 
+ghost use Rattle.flow_limits.specs.declared.TheConstants.{TEXT_LIMIT};
+ghost use Rattle.std.specs.Prelude.{◌≡◌, ◌≤◌, length};
+ghost use Rattle.flow_find.specs.Split.{last_as};
+
 use flow_find::{Find, Rewrite, Split};
 use flow_limits::TEXT_LIMIT;
 use flow_map::{LetterCase, Letters, Made, Maps, Told};
@@ -80,23 +84,32 @@ fn found(alloc: Global, pattern: &[u8], with: &[u8], text: &[u8]) -> Result<Vec<
     Err("it doesn't end".into())
 }
 
+// The last place of a text.
+fn last_place(bracketed: bool, text: &[u8]) -> usize
+    requires { length text.now ≤ TEXT_LIMIT }
+    ensures { result ≡ last_as bracketed text.now }
+{
+    if bracketed {
+        text.len() + 3
+    } else {
+        text.len() + 1
+    }
+}
+
 // What a Split makes of a text: a bar behind each packet but the last, and a dot behind that.
 fn split(alloc: Global, pattern: &[u8], bracketed: bool, text: &[u8]) -> Result<Vec<u8>, Fail> {
     if !is_pattern(alloc, pattern)? || text.len() > TEXT_LIMIT {
         return Err("no pattern, or no text of a packet".into());
     }
-    let last = if bracketed {
-        text.len() + 3
-    } else {
-        text.len() + 1
-    };
-    let mut split = Split::new(alloc, pattern, bracketed)?;
+    let last = last_place(bracketed, text);
     let mut written = Vec::new(alloc);
     let mut place = 0;
     for _ in 0..100 {
         if place > last {
             return Err("no place of the text".into());
         }
+        // It keeps nothing from one place to the next.
+        let mut split = Split::new(alloc, pattern, bracketed)?;
         let told = split.next(text, place)?;
         match write(alloc, text, told, &mut written)? {
             Some(next) => place = next,
