@@ -3,7 +3,6 @@ pub mod Locating
 pub mod Needed
 pub mod Parts
 pub mod Readings
-pub mod Refilling
 pub mod Replacing
 pub mod Spelling
 pub mod Writing

@@ -1,4 +1,4 @@
-use Rattle.std.proofs.Common.{◌≡◌, ℕ, ◌+◌, ◌-◌, false, List, [], ◌++◌, Some, None, option_map, refl, sym, subst, ap, ◌∙◌, arith, append_assoc, slice_range}
+use Rattle.std.proofs.Common.{◌≡◌, ℕ, ◌-◌, false, List, [], ◌++◌, Some, None, option_map, refl, sym, subst, ap, ◌∙◌, arith, append_assoc, slice_range}
 use Rattle.std.proofs.lemmas.List.{take_rest}
 use Rattle.regex.specs.Patterns.{Match, find, span}
 use Rattle.regex.specs.Replace.{group_bytes}
@@ -8,8 +8,7 @@ use Rattle.flow_pattern.specs.Pattern.{expression}
 use Rattle.flow_pattern.specs.Rewriting.{IsNewText, Tells}
 use Rattle.flow_pattern.specs.Template.{parts_text}
 use Rattle.flow_pattern.proofs.Groups.{found_there}
-use Rattle.flow_pattern.proofs.Refilling.{left_by, all_left_by, match_left_by, rest_left_by}
-use Rattle.flow_pattern.proofs.Replacing.{some_in, none_in}
+use Rattle.flow_pattern.proofs.Replacing.{all_left, match_left, rest_left, some_in, none_in}
 use Rattle.flow_pattern.proofs.Writing.{rewritten_told}
 use Rattle.flow_pattern.proofs.filler.refill.Goals as goal
 
@@ -17,7 +16,7 @@ pub matches-init : goal.matches-init
 matches-init c =
     let text = c.args.text.now in
     let re = expression c.args.locator.now in
-    (omega arith, refl, ([], c.new-written.ensures, all_left_by re (λ m. parts_text (group_bytes text m) c.args.parts.now) text), (λ more. absurd (omega (arith, more))))
+    (omega arith, refl, ([], c.new-written.ensures, all_left re (λ m. parts_text (group_bytes text m) c.args.parts.now) text), (λ more. absurd (omega (arith, more))))
 
 pub matches-preserved : goal.matches-preserved
 matches-preserved c =
@@ -42,9 +41,9 @@ matches-preserved c =
       (
         (written.0 ++ between) ++ by v.0,
         c.in_ok-fill.ensures.filled v.0 there v.2 c.args.most (written.0 ++ between) first,
-        (simp append_assoc) ∙ ap (λ x. written.0 ++ x) (sym (match_left_by re by text l.after v.0 s v.1 v.2)) ∙ written.2,
+        (simp append_assoc) ∙ ap (λ x. written.0 ++ x) (sym (match_left re by text l.after v.0 s v.1 v.2)) ∙ written.2,
       ),
-      (λ _. some_in re [] text l.after s found l.invariant.3),
+      (λ _. some_in re text l.after s found l.invariant.3),
     )
 
 pub returns-then-after-eq0-clause-rewritten : goal.returns-then-after-eq0-clause-rewritten
@@ -55,7 +54,7 @@ returns-then-after-eq0-clause-rewritten c =
     let none : None ≡ option_map span (next_match false re text l.after) =
     sym c.in_default.is ∙ c.in_ok-from.ensures.found ∙ ap (λ (p : List ℕ). option_map span (next_match false (expression p) text l.after)) l.invariant.1 in
     let first : l.after ≡ 0 = omega (arith, c.if-after-eq0.true) in
-    none_in re [] text (none ∙ ap (λ n. option_map span (next_match false re text n)) first)
+    none_in re text (none ∙ ap (λ n. option_map span (next_match false re text n)) first)
 
 pub returns-clause-rewritten : goal.returns-clause-rewritten
 returns-clause-rewritten c =
@@ -66,7 +65,7 @@ returns-clause-rewritten c =
     let none : None ≡ option_map span (next_match false re text l.after) =
     sym c.in_default.is ∙ c.in_ok-from.ensures.found ∙ ap (λ (p : List ℕ). option_map span (next_match false (expression p) text l.after)) l.invariant.1 in
     let written = l.invariant.2 in
-    let whole = ap (λ x. written.0 ++ x) (take_rest text _ ∙ sym (rest_left_by re by text l.after none)) ∙ written.2 in
+    let whole = ap (λ x. written.0 ++ x) (take_rest text _ ∙ sym (rest_left re by text l.after none)) ∙ written.2 in
     let told = c.told.ensures c.args.most _ (c.in_ok-put-2.ensures c.args.most written.0 written.1) in
     rewritten_told c.args.locator.now by text c.args.most c.told.result (l.invariant.3 (omega (arith, c.if-after-eq0.false)))
     (subst (λ (x : List ℕ). Tells c.args.most x c.told.result) whole told)

@@ -4,7 +4,7 @@ use Rattle.regex.specs.Replace.{group_bytes, replaced_by}
 use Rattle.flow_pattern.specs.Pattern.{expression, matches}
 use Rattle.flow_pattern.specs.Rewriting.{IsNewText}
 use Rattle.flow_pattern.specs.Template.{parts_text}
-use Rattle.flow_pattern.proofs.Refilling.{left_by}
+use Rattle.flow_pattern.proofs.Replacing.{left}
 use Rattle.flow_pattern.proofs.filler.refill.Given as goal
 
 abbrev pub invariant-matches : goal.invariant-matches
@@ -12,7 +12,7 @@ invariant-matches l =
     (l.after ≤ length l.text + 1)
     × (l.locator ≡ l.fn.locator)
     × ((whole : List ℕ) × IsNewText l.most whole l.written
-    × (whole ++ left_by (expression l.fn.locator) (λ m. parts_text (group_bytes l.text m) l.parts) l.text l.after ≡ replaced_by (λ m. parts_text (group_bytes l.text m) l.parts) l.text 0 (find_all (expression l.fn.locator) l.text)))
+    × (whole ++ left (expression l.fn.locator) (λ m. parts_text (group_bytes l.text m) l.parts) l.text l.after ≡ replaced_by (λ m. parts_text (group_bytes l.text m) l.parts) l.text 0 (find_all (expression l.fn.locator) l.text)))
     × (0 < l.after → matches l.fn.locator l.text ≡ true)
 
 abbrev pub decreases-matches : goal.decreases-matches

@@ -8,7 +8,7 @@ abbrev pub invariant-matches : goal.invariant-matches
 invariant-matches l =
     (l.after ≤ length l.text + 1)
     × (l.locator ≡ l.fn.locator)
-    × ((whole : List ℕ) × IsNewText l.most whole l.written × (whole ++ left (expression l.fn.locator) l.with l.text l.after ≡ replaced l.fn.locator l.with l.text))
+    × ((whole : List ℕ) × IsNewText l.most whole l.written × (whole ++ left (expression l.fn.locator) (λ _. l.with) l.text l.after ≡ replaced l.fn.locator l.with l.text))
     × (0 < l.after → matches l.fn.locator l.text ≡ true)
 
 abbrev pub decreases-matches : goal.decreases-matches
