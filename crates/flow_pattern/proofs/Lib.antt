@@ -1,3 +1,4 @@
+pub mod Calling
 pub mod Groups
 pub mod Locating
 pub mod Needed

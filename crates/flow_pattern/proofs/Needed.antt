@@ -1,10 +1,10 @@
 -- A match that is found has a needle within it.
-use Rattle.std.proofs.Common.{◌≡◌, ℕ, ◌<◌, ◌≤◌, List, length, All, Option, Some, None, IsSome, IsSomeAnd, IfSome, true, false, is_some, refl, subst, sym, ap, ◌∙◌, arith, get_or}
+use Rattle.std.proofs.Common.{◌≡◌, ℕ, ◌<◌, List, All, Option, Some, None, IfSome, false, is_some, refl, subst, sym, ap, ◌∙◌, arith}
 use Rattle.std.proofs.lemmas.List.{get_or_default}
 use Rattle.regex.specs.Patterns.{Re, SameCaptures, find}
 use Rattle.regex.proofs.ForCallers.{is_match_alike}
 use Rattle.regex_hir.proofs.OptionLemmas.{value_of_IsSome}
-use Rattle.regex_literal.specs.Find.{AnyOccursAt, AreBytes, FindsNeedles}
+use Rattle.regex_literal.specs.Find.{AreBytes, FindsNeedles}
 use Rattle.regex_extract.specs.Needles.{ContainsNeedle}
 use Rattle.regex_meta.proofs.LeftmostLemmas.{find_first, Matches-of_attempt}
 use Rattle.flow_pattern.specs.Needles.{AreNeeded, StandNowhere}

@@ -1,20 +1,20 @@
 -- How a text is read as a template, part by part, and that the parts write what the text stands for.
-use Rattle.std.proofs.Common.{◌≡◌, ℕ, zero, suc, ◌+◌, ◌<◌, ◌≤◌, ◌==◌, Bool, true, false, not, List, [], ◌∷◌, ◌++◌, length, drop, nat_lt, slice_index, Option, Some, None, option_map, Result, Ok, Err, IfErr, if◌then◌else◌, refl, sym, subst, ap, ◌∙◌, arith, append_assoc, append-nil, drop-drop, length-drop, lt-ltb}
+use Rattle.std.proofs.Common.{◌≡◌, ℕ, ◌+◌, ◌<◌, ◌≤◌, ◌==◌, Bool, true, false, not, List, [], ◌∷◌, ◌++◌, length, drop, nat_lt, slice_index, Option, Some, None, option_map, Result, Ok, Err, IfErr, if◌then◌else◌, refl, sym, subst, ap, ◌∙◌, arith, append_assoc, append-nil, drop-drop, length-drop, lt-ltb}
 use Rattle.std.proofs.lemmas.List.{drop_all}
 use Rattle.std.proofs.lemmas.Option.{none-some, same_Some}
 use Rattle.regex.specs.Templates.{name_at, group_called, written_after, at_dollar, text_or_nothing, number_in}
+use Rattle.regex.proofs.TemplateLemmas.{after_reference}
 use Rattle.regex_syntax.specs.Grammar.{Names}
 use Rattle.flow_pattern.specs.Pattern.{group_names}
 use Rattle.flow_pattern.specs.Template.{known, calls, dollar_part, first_part, Spells, IsTemplate, part_text, parts_text, whole_match}
 use Rattle.flow_pattern.specs.declared.template.Part.{Part}
 use Rattle.flow_pattern.specs.declared.template.Part.TheVariants.{Byte, Group}
 
--- Bytes that are passed over first.
-passed : (names : Names) (held : ℕ → List ℕ) (text : List ℕ) (n : ℕ) → written_after names held text n ≡ written_after names held (drop n text) 0
+-- What stands behind a byte that is passed over.
+behind-one : (names : Names) (held : ℕ → List ℕ) (text : List ℕ) → written_after names held text 1 ≡ written_after names held (drop 1 text) 0
 unfolding written_after
-passed names held text zero = refl
-passed names held [] (suc n) = refl
-passed names held (byte ∷ text) (suc n) = passed names held text n
+behind-one names held [] = refl
+behind-one names held (byte ∷ text) = refl
 
 -- A text that begins with a part writes what the part does, and then what stands behind it does.
 module _ (names : Names) (held : ℕ → List ℕ) (byte : ℕ) (rest : List ℕ) (part : Part) (n : ℕ) where
@@ -32,24 +32,30 @@ module _ (names : Names) (held : ℕ → List ℕ) (byte : ℕ) (rest : List ℕ
   abbrev as-group : ℕ → ℕ → Part × ℕ
   as-group len k = (Group k, len + 1)
 
-  counted : (k len : ℕ) (below : Bool) → option_map (as-group len) (if below then Some k else None) ≡ some part n → IsSo (held k ++ written_after names held rest len)
-  counted k len true e =
-      let more : len + 1 ≡ suc len = omega arith in
-      is-so (held k ++ written_after names held rest len) (Group k) (len + 1) e
-      (ap (λ (x : List ℕ). held k ++ x) (passed names held rest len ∙ ap (λ (m : ℕ). written_after names held (drop m (byte ∷ rest)) 0) (sym more)))
+  -- What the whole writes where this stands for a call that so many bytes spell behind the dollar.
+  abbrev called-by : List ℕ → ℕ → List ℕ
+  called-by text len = text ++ written_after names held (drop (len + 1) (byte ∷ rest)) 0
+
+  counted : (k len : ℕ) (below : Bool) → option_map (as-group len) (if below then Some k else None) ≡ some part n → IsSo (called-by (held k) len)
+  counted k len true e = is-so (called-by (held k) len) (Group k) (len + 1) e refl
   counted k len false e = absurd (none-some (part, n) e)
 
-  grouped : (len : ℕ) (o : Option ℕ) → option_map (as-group len) (known names o) ≡ some part n → IsSo (text_or_nothing names held o ++ written_after names held rest len)
+  grouped : (len : ℕ) (o : Option ℕ) → option_map (as-group len) (known names o) ≡ some part n → IsSo (called-by (text_or_nothing names held o) len)
   grouped len None e = absurd (none-some (part, n) e)
   grouped len (Some k) e = counted k len (nat_lt k (length names)) e
 
   named : (o : Option (List ℕ × ℕ)) → calls names o ≡ some part n → IsSo (at_dollar names held o (written_after names held rest))
   named None e = absurd (none-some (part, n) e)
-  named (Some name) e = grouped name.1 (group_called names name.0) e
+  named (Some name) e =
+      let group = group_called names name.0 in
+      let spelled : 0 + (1 + name.1) ≡ name.1 + 1 = omega arith in
+      after_reference names (byte ∷ rest) 0 name.1 name.0 held
+      ∙ ap (λ (m : ℕ). text_or_nothing names held group ++ written_after names held (drop m (byte ∷ rest)) 0) spelled
+      ∙ grouped name.1 group e
 
   twice : (again : Bool) → (if again then some (Byte 36) 2 else calls names (name_at rest)) ≡ some part n
       → IsSo (if again then 36 ∷ written_after names held rest 1 else at_dollar names held (name_at rest) (written_after names held rest))
-  twice true e = is-so (36 ∷ written_after names held rest 1) (Byte 36) 2 e (ap (λ (x : List ℕ). 36 ∷ x) (passed names held rest 1))
+  twice true e = is-so (36 ∷ written_after names held rest 1) (Byte 36) 2 e (ap (λ (x : List ℕ). 36 ∷ x) (behind-one names held rest))
   twice false e = named (name_at rest) e
 
   begun : (dollar : Bool) → (if dollar then dollar_part names rest else some (Byte byte) 1) ≡ some part n

@@ -1,10 +1,11 @@
 //! How a template calls a group of a pattern, behind a dollar.
 
-ghost use Rattle.std.specs.Prelude.{◌≡◌, ◌↔◌, ◌==◌, ◌<◌, ◌≤◌, not, length, drop, slice_index, option_map, string_bytes, IfSome, IsTrue, Some};
-ghost use Rattle.std.specs.List.{prefix_len};
-ghost use Rattle.regex.specs.Names.{names_of, IsIndexOf};
-ghost use Rattle.regex.specs.Templates.{is_name_byte, name_at, group_called};
-ghost use Rattle.flow_pattern.specs.Template.{known, called};
+ghost use Rattle.std.specs.Prelude.{◌≡◌, ◌+◌, ◌<◌, ◌≤◌, ◌==◌, ◌∷◌, false, length, drop, bytes_eq, position, slice_index, take_while, option_map, string_bytes, IfSome, IsTrue};
+ghost use Rattle.std.specs.List.{position_from};
+ghost use Rattle.regex_hir.specs.Text.{is_some_and};
+ghost use Rattle.regex.specs.Names.{names_of};
+ghost use Rattle.regex.specs.Templates.{is_name_byte, name_at, number_in};
+ghost use Rattle.flow_pattern.specs.Template.{called};
 
 use std::str;
 
@@ -22,31 +23,62 @@ pub(crate) fn begins_with(text: &[u8], first: u8) -> bool
     ensures value { result ≡ (slice_index text.now 0 == first) }
     ensures len { IsTrue result → 0 < length text.now }
 {
-    !text.is_empty() && text[0] == first
+    match text {
+        [byte, ..] => *byte == first,
+        [] => false,
+    }
 }
 
-// How many bytes at the front can stand in a name without braces.
-fn name_len(text: &[u8]) -> usize
-    ensures { result ≡ prefix_len is_name_byte text.now }
+// Whether a byte can stand in a name without braces.
+fn is_of_name(byte: u8) -> bool
+    ensures { result ≡ is_name_byte byte }
 {
-    for i in 0..text.len() {
-        if !(text[i].is_ascii_alphanumeric() || text[i] == b'_') {
-            return i;
-        }
-    }
-    text.len()
+    byte.is_ascii_alphanumeric() || byte == b'_'
 }
 
-// How many bytes stand before the first closing brace.
-fn len_in_braces(text: &[u8]) -> usize
-    ensures { result ≡ prefix_len (λ b. not (b == 125)) text.now }
+// How many bytes at the front can.
+fn bare_len(text: &[u8]) -> usize
+    ensures { result ≡ length (take_while is_name_byte text.now) }
 {
-    for i in 0..text.len() {
-        if text[i] == b'}' {
-            return i;
-        }
+    text.iter().take_while(|byte| is_of_name(**byte)).count()
+}
+
+// The name at the front, as far as bytes can stand in one, and how many they are.
+fn bare_name(rest: &[u8]) -> Option<(&str, usize)>
+    requires bare { (slice_index rest.now 0 == 123) ≡ false }
+    ensures value { option_map (λ found. (found.0.now, found.1)) result ≡ name_at rest.now }
+    ensures within { IfSome result (λ found. (0 < found.1) × (found.1 ≤ length rest.now)) }
+{
+    let len = bare_len(rest);
+    if len == 0 {
+        return None;
     }
-    text.len()
+    match str::from_utf8(&rest[..len]) {
+        Ok(name) => Some((name, len)),
+        // They are of ASCII.
+        Err(_) => unreachable!(),
+    }
+}
+
+fn closing_brace(text: &[u8]) -> Option<usize>
+    ensures place { result ≡ position (λ byte. byte == 125) text.now }
+    ensures within { IfSome result (λ place. place < length text.now) }
+{
+    text.iter().position(|byte| *byte == b'}')
+}
+
+// The name up to the first closing brace, and how many bytes spell it with both its braces.
+fn name_in_braces(inside: &[u8]) -> Option<(&str, usize)>
+    ensures value { option_map (λ found. (found.0.now, found.1)) result ≡ name_at (123 ∷ inside.now) }
+    ensures within { IfSome result (λ found. (0 < found.1) × (found.1 ≤ length inside.now + 1)) }
+{
+    let Some(len) = closing_brace(inside) else {
+        return None;
+    };
+    match str::from_utf8(&inside[..len]) {
+        Ok(name) => Some((name, len + 2)),
+        Err(_) => None,
+    }
 }
 
 // The name that stands behind a dollar, in braces or without, and how many bytes spell it there.
@@ -55,70 +87,38 @@ pub(crate) fn name_at(rest: &[u8]) -> Option<(&str, usize)>
     ensures within { IfSome result (λ found. (0 < found.1) × (found.1 ≤ length rest.now)) }
 {
     if begins_with(rest, b'{') {
-        let inside = behind(rest, 1);
-        let len = len_in_braces(inside);
-        if len >= inside.len() {
-            return None;
-        }
-        let Ok(name) = str::from_utf8(&inside[..len]) else {
-            return None;
-        };
-        return Some((name, len + 2));
+        return name_in_braces(behind(rest, 1));
     }
-    let len = name_len(rest);
-    if len == 0 {
-        return None;
-    }
-    let Ok(name) = str::from_utf8(&rest[..len]) else {
-        return None;
-    };
-    Some((name, len))
+    bare_name(rest)
 }
 
-fn is_named(group: &Option<String>, name: &str) -> bool
-    ensures { IsTrue result ↔ (option_map string_bytes group.now ≡ Some name.now) }
+// Whether a group has this name.
+fn bears(group: &Option<String>, name: &str) -> bool
+    ensures { result ≡ is_some_and (option_map string_bytes group.now) (bytes_eq name.now) }
 {
-    match group {
-        Some(it) => it.as_str() == name,
-        None => false,
-    }
+    group.as_ref().is_some_and(|own| name == own.as_str())
 }
 
-// The first group with this name.
-fn index_of(names: &[Option<String>], name: &str) -> Option<usize>
-    ensures { IsIndexOf (names_of names.now) name.now result }
+// The first group that has this name.
+fn first_with(names: &[Option<String>], name: &str) -> Option<usize>
+    ensures { result ≡ position_from (λ group. is_some_and (option_map string_bytes group) (bytes_eq name.now)) 0 names.now }
 {
-    'names: for index in 0..names.len() {
-        if is_named(&names[index], name) {
-            return Some(index);
-        }
-    }
-    None
+    names.iter().position(|group| bears(group, name))
 }
 
-// The group that this name calls, whether or not there is one of that number.
-fn group_called(names: &[Option<String>], name: &str) -> Option<usize>
-    ensures { result ≡ group_called (names_of names.now) name.now }
+// The number that a name is, where it is one.
+fn number_in(name: &str) -> Option<usize>
+    ensures { result ≡ number_in name.now }
 {
-    match name.parse::<usize>() {
-        Ok(number) => Some(number),
-        Err(_) => index_of(names, name),
-    }
-}
-
-// A group by its number, where there is one.
-fn known(names: &[Option<String>], group: Option<usize>) -> Option<usize>
-    ensures { result ≡ known (names_of names.now) group }
-{
-    match group {
-        Some(number) if number < names.len() => Some(number),
-        _ => None,
-    }
+    name.parse().ok()
 }
 
 // The group that this name calls, where there is one.
 pub(crate) fn called(names: &[Option<String>], name: &str) -> Option<usize>
     ensures { result ≡ called (names_of names.now) name.now }
 {
-    known(names, group_called(names, name))
+    match number_in(name) {
+        Some(number) => (number < names.len()).then_some(number),
+        None => first_with(names, name),
+    }
 }

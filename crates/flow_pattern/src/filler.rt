@@ -47,6 +47,7 @@ impl Drop for Filler {
 }
 
 // What a group spans, by the span of the match and the cells of its groups.
+#[tactic(auto, unfolding(regex::specs::Search::group_span))]
 fn group(
     text: &[u8],
     whole: (usize, usize),
@@ -57,18 +58,15 @@ fn group(
     ensures value { result ≡ group_span false text.now whole cells.now index }
     ensures within { IfSome result (LiesWithin 0 (length text.now)) }
 {
-    if index == 0 {
+    let Some(before) = index.checked_sub(1) else {
         return Some(whole);
-    }
-    if index > cells.len() / 2 {
+    };
+    if before >= cells.len() / 2 {
         return None;
     }
-    let first = cells[2 * index - 2];
-    let last = cells[2 * index - 1];
-    if first == 0 || last < first || last - 1 > text.len() {
-        return None;
-    }
-    Some((first - 1, last - 1))
+    let from = cells[2 * before].checked_sub(1)?;
+    let end = cells[2 * before + 1].checked_sub(1)?;
+    (from <= end && end <= text.len()).then_some((from, end))
 }
 
 // Writes what a part makes of a match.
@@ -84,10 +82,12 @@ fn put_part(
 {
     match *part {
         Part::Byte(byte) => written.put(&[byte]),
-        Part::Group(number) => match group(text, whole, cells, number) {
-            Some((from, end)) => written.put(&text[from..end]),
-            None => Ok(()),
-        },
+        Part::Group(number) => {
+            let Some((from, end)) = group(text, whole, cells, number) else {
+                return Ok(());
+            };
+            written.put(&text[from..end])
+        }
     }
 }
 
@@ -112,22 +112,14 @@ fn put_parts(
 fn calls_group(part: &Part) -> bool
     ensures { result ≡ false → (held other : ℕ → List ℕ) → held 0 ≡ other 0 → part_text held part.now ≡ part_text other part.now }
 {
-    match *part {
-        Part::Byte(_) => false,
-        Part::Group(number) => number > 0,
-    }
+    matches!(*part, Part::Group(number) if number != 0)
 }
 
 // Whether the parts call a group other than the whole match.
 fn call_groups(parts: &[Part]) -> bool
     ensures { result ≡ false → (held other : ℕ → List ℕ) → held 0 ≡ other 0 → parts_text held parts.now ≡ parts_text other parts.now }
 {
-    for part in parts {
-        if calls_group(part) {
-            return true;
-        }
-    }
-    false
+    parts.iter().any(calls_group)
 }
 
 // The cells that the parts need of the groups of a match, by the place where it begins.

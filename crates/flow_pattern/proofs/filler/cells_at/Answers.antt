@@ -1,4 +1,4 @@
-use Rattle.std.proofs.Common.{◌≡◌, ℕ, false, List, Option, Some, IfSome, refl, subst, ap}
+use Rattle.std.proofs.Common.{◌≡◌, false, Option, Some, IfSome, subst, ap}
 use Rattle.regex.specs.Patterns.{Match, find, span}
 use Rattle.regex.specs.Replace.{bytes_of, group_bytes}
 use Rattle.regex.specs.Search.{SpansGroups, group_span}
@@ -17,7 +17,7 @@ returns-then-call_groups-clause-written c =
     IfOk-weaker _
     (λ cells. (m : Match) → find re text c.args.start ≡ Some m → parts_text (λ n. bytes_of text (group_span false text (span m) cells.items n)) c.args.parts.now ≡ parts_text (group_bytes text m) c.args.parts.now)
     (λ cells spans m there. parts_same (λ n. bytes_of text (group_span false text (span m) cells.items n)) (group_bytes text m)
-    (held text m (span m) cells.items refl (subst (λ (o : Option Match). IfSome o (λ x. SpansGroups false text x (span x) cells.items)) there spans)) c.args.parts.now)
+    (held text m cells.items (subst (λ (o : Option Match). IfSome o (λ x. SpansGroups false text x (span x) cells.items)) there spans)) c.args.parts.now)
     c.groups.result c.groups.ensures.spans
 
 pub returns-clause-written : goal.returns-clause-written

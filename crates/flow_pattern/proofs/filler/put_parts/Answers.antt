@@ -1,4 +1,4 @@
-use Rattle.std.proofs.Common.{◌≡◌, ℕ, ◌+◌, ◌++◌, false, List, sym, subst, ◌∙◌, arith}
+use Rattle.std.proofs.Common.{ℕ, false, List, subst}
 use Rattle.regex.specs.Replace.{bytes_of}
 use Rattle.regex.specs.Search.{group_span}
 use Rattle.flow_pattern.specs.Rewriting.{IsNewText}

@@ -1,4 +1,4 @@
-use Rattle.std.proofs.Common.{◌≡◌, ℕ, false, List, [], ◌++◌, Some, option_map, sym, subst, ap, ◌∙◌}
+use Rattle.std.proofs.Common.{◌≡◌, ℕ, false, List, [], Some, option_map, sym, subst, ap, ◌∙◌}
 use Rattle.regex.specs.Patterns.{find, span}
 use Rattle.regex.specs.Replace.{group_bytes}
 use Rattle.regex.specs.Search.{next_match}

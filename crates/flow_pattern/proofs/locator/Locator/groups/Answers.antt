@@ -1,4 +1,4 @@
-use Rattle.std.proofs.Common.{◌≡◌, ℕ, false, List, IfSome, subst}
+use Rattle.std.proofs.Common.{ℕ, false, List, IfSome, subst}
 use Rattle.regex.specs.Patterns.{find, span}
 use Rattle.regex.specs.Search.{SpansGroups}
 use Rattle.regex.proofs.ReplaceLemmas.{IfOk-weaker}
@@ -13,4 +13,4 @@ returns-clause-spans c =
     let serves = c.self.invariant.3 in
     IfOk-weaker _ (λ cells. IfSome (find (expression c.args.self.now) text start) (λ m. SpansGroups false text m (span m) cells.items))
     (λ cells told. subst (λ (t : List ℕ). IfSome (find (expression t) text start) (λ m. SpansGroups false text m (span m) cells.items)) c.self.view_is
-    (groups_so serves.program c.self.inside.text.items text serves.same (λ k. (c.type_inv.text k).fits) start cells.items c.self.inside.dfa serves.is_its told)) c.groups.result c.groups.ensures.cells
+    (groups_so text cells.items serves.program start c.self.inside.text.items serves.same (λ k. (c.type_inv.text k).fits) c.self.inside.dfa serves.is_its told)) c.groups.result c.groups.ensures.cells

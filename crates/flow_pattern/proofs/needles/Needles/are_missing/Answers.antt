@@ -1,4 +1,4 @@
-use Rattle.std.proofs.Common.{◌≡◌, ℕ, List, None, sym, subst}
+use Rattle.std.proofs.Common.{ℕ, List, None, sym, subst}
 use Rattle.regex_literal.specs.Find.{FindsNeedles}
 use Rattle.flow_pattern.proofs.Needed.{nowhere}
 use Rattle.flow_pattern.proofs.needles.Needles.are_missing.Goals as goal

@@ -1,4 +1,4 @@
-use Rattle.std.proofs.Common.{sym, ap, ◌∙◌}
+use Rattle.std.proofs.Common.{◌∙◌}
 use Rattle.regex_meta.specs.Programs.{pattern_of}
 use Rattle.regex_extract.specs.Needles.{needles_of}
 use Rattle.flow_pattern.proofs.Needed.{needed_as}
