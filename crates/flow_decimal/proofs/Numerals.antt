@@ -1,5 +1,5 @@
 -- Numerals: what the test tells of them, and two that stand one behind the other.
-use Rattle.std.proofs.Common.{◌≡◌, ℕ, ◌+◌, ◌*◌, ◌^◌, ◌<◌, ◌≤◌, Bool, true, false, List, [], ◌∷◌, ◌++◌, length, get_or, refl, sym, subst, ap, ◌∙◌, arith, nat_lt, true≢false}
+use Rattle.std.proofs.Common.{◌≡◌, ℕ, ◌+◌, ◌*◌, ◌^◌, ◌<◌, ◌≤◌, Bool, true, List, [], ◌∷◌, ◌++◌, length, get_or, refl, sym, subst, ap, ◌∙◌, arith, nat_lt}
 use Rattle.std.specs.Prelude.{◌≢◌, ◌&&◌, Option}
 use Rattle.std.specs.Int.{IsInRange}
 use Rattle.std.specs.Option.{SomeIff}
@@ -9,17 +9,13 @@ use Rattle.std.specs.List.{list_all}
 use Rattle.std.specs.Str.{all_ascii_digits, IsUtf8}
 use Rattle.std.specs.Str.Parse.{AllDigits, IsNumeral, digits_value, digits_value_after, without_leading_plus}
 use Rattle.std.proofs.Math.Nat.{pow-suc, le-mul_of_pos_right}
+use Rattle.std.proofs.lemmas.Bool.{and_from, and_parts}
 use Rattle.std.proofs.lemmas.Fmt.{IsAscii-from_digits, decimal_is_IsNumeral_wide}
 use Rattle.std.proofs.lemmas.Str.{IsUtf8-from_ascii}
 use Rattle.std.proofs.lemmas.Str.Parse.{IsNumeralModel, tells_all_ascii_digits, numerals_by_value, digit_from_value, without_leading_plus_none}
 use Rattle.flow_decimal.specs.Numbers.{is_numeral}
 use Rattle.flow_decimal.specs.Order.{ten_pos}
 use Rattle.flow_decimal.proofs.Fitting.{below-test, test-below}
-
--- both of two tests
-pub both : (a b : Bool) → (a && b) ≡ true → (a ≡ true) × (b ≡ true)
-both true b e = (refl, e)
-both false b e = absurd (true≢false (sym e))
 
 -- digits, by std's words
 same-digits : (ds : List ℕ) → list_all is_ascii_digit ds ≡ all_ascii_digits ds
@@ -31,10 +27,10 @@ pub own : IsNumeralModel (λ ds. all_ascii_digits ds ≡ true) (digits_value 10)
 own = numerals_by_value (λ ds. all_ascii_digits ds ≡ true) tells_all_ascii_digits
 
 pub numeral-some : (ds : List ℕ) → is_numeral ds ≡ true → 0 < length ds
-numeral-some ds e = test-below 0 (length ds) (both (nat_lt 0 (length ds)) (list_all is_ascii_digit ds) e).0
+numeral-some ds e = test-below 0 (length ds) (and_parts (nat_lt 0 (length ds)) (list_all is_ascii_digit ds) e).0
 
 pub numeral-ascii : (ds : List ℕ) → is_numeral ds ≡ true → all_ascii_digits ds ≡ true
-numeral-ascii ds e = sym (same-digits ds) ∙ (both (nat_lt 0 (length ds)) (list_all is_ascii_digit ds) e).1
+numeral-ascii ds e = sym (same-digits ds) ∙ (and_parts (nat_lt 0 (length ds)) (list_all is_ascii_digit ds) e).1
 
 pub numeral-digits : (ds : List ℕ) → is_numeral ds ≡ true → AllDigits 10 ds
 numeral-digits ds e = own.to ds (numeral-ascii ds e)
@@ -42,39 +38,34 @@ numeral-digits ds e = own.to ds (numeral-ascii ds e)
 pub numeral-utf8 : (ds : List ℕ) → is_numeral ds ≡ true → IsUtf8 ds
 numeral-utf8 ds e = IsUtf8-from_ascii ds (IsAscii-from_digits ds (numeral-digits ds e))
 
-joined-tests : (a b : Bool) → a ≡ true → b ≡ true → (a && b) ≡ true
-joined-tests a b p q = (λ i. p i && q i)
-
 pub numeral-from : (ds : List ℕ) → IsNumeral 10 ds → is_numeral ds ≡ true
-numeral-from ds h = joined-tests (nat_lt 0 (length ds)) (list_all is_ascii_digit ds) (below-test 0 (length ds) h.0) (same-digits ds ∙ own.from ds h.1)
+numeral-from ds h = and_from (nat_lt 0 (length ds)) (list_all is_ascii_digit ds) (below-test 0 (length ds) h.0) (same-digits ds ∙ own.from ds h.1)
 
 -- the number of two that stand one behind the other
 
-after-append : (n : ℕ) (xs ys : List ℕ) → digits_value_after 10 n (xs ++ ys) ≡ digits_value_after 10 (digits_value_after 10 n xs) ys
-after-append n [] ys = refl
-after-append n (x ∷ xs) ys = after-append (n * 10 + digit_value x) xs ys
+-- What is read behind some digits moves them to the left by its length, whatever stood before.
+moved : (before : ℕ) (xs ys : List ℕ) → digits_value_after 10 before (xs ++ ys) ≡ digits_value_after 10 before xs * 10 ^ length ys + digits_value 10 ys
+moved before (x ∷ xs) ys = moved (before * 10 + digit_value x) xs ys
+moved before [] [] = omega arith
+moved before [] (y ∷ ys) =
+    let one : ℕ = 0 * 10 + digit_value y in
+    let places = ap (λ (power : ℕ). before * power) (pow-suc 10 (length ys)) in
+    omega (arith, places, moved (before * 10 + digit_value y) [] ys, moved one [] ys)
 
-after-is : (n : ℕ) (ds : List ℕ) → digits_value_after 10 n ds ≡ n * 10 ^ length ds + digits_value 10 ds
-after-is n [] = omega arith
-after-is n (c ∷ cs) =
-    let a = after-is (n * 10 + digit_value c) cs in
-    let b = after-is (0 * 10 + digit_value c) cs in
-    omega (arith, ap (λ x. n * x) (pow-suc 10 (length cs)))
-
-pub value-append : (xs ys : List ℕ) → digits_value 10 (xs ++ ys) ≡ digits_value 10 xs * 10 ^ length ys + digits_value 10 ys
-value-append xs ys = after-append 0 xs ys ∙ after-is (digits_value 10 xs) ys
+pub two-parts : (xs ys : List ℕ) → digits_value 10 (xs ++ ys) ≡ digits_value 10 xs * 10 ^ length ys + digits_value 10 ys
+two-parts = moved 0
 
 -- it is no less than each of them
 pub front-below : (xs ys : List ℕ) → digits_value 10 xs ≤ digits_value 10 (xs ++ ys)
 front-below xs ys =
     let more : digits_value 10 xs ≤ digits_value 10 xs * 10 ^ length ys = le-mul_of_pos_right (digits_value 10 xs) (ten_pos (length ys)) in
-    omega (arith, value-append xs ys)
+    omega (arith, two-parts xs ys)
 
 pub back-below : (xs ys : List ℕ) → digits_value 10 ys ≤ digits_value 10 (xs ++ ys)
-back-below xs ys = omega (arith, value-append xs ys)
+back-below xs ys = omega (arith, two-parts xs ys)
 
 pub scaled-below : (xs ys : List ℕ) → digits_value 10 xs * 10 ^ length ys ≤ digits_value 10 (xs ++ ys)
-scaled-below xs ys = omega (arith, value-append xs ys)
+scaled-below xs ys = omega (arith, two-parts xs ys)
 
 -- what is said of a number, said of one that equals it
 pub iff-along : (r : Option ℕ) (x y : ℕ) → x ≡ y → SomeIff r (x < 2 ^ 128) x → SomeIff r (y < 2 ^ 128) y

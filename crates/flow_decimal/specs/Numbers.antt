@@ -20,7 +20,7 @@ front text = before_first is_point text
 abbrev pub back : List ℕ → List ℕ
 back text = after_first is_point text
 
--- One digit or more, and nothing else.
+-- Digits alone, at least one.
 abbrev pub is_numeral : List ℕ → Bool
 is_numeral text = nat_lt 0 (length text) && list_all is_ascii_digit text
 

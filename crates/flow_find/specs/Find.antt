@@ -21,7 +21,7 @@ abbrev pub sends_match : Replacement → List ℕ → Option Match → Next
 sends_match by text None = Over
 sends_match by text (Some match) = More (text_product (filled by text match)) (match.trace.end + 1)
 
--- What comes next of a text, where the place is one more than the end of the last match, or 0 before the first.
+-- What comes next of a text: at place 0 its first match, and at place n + 1 the one behind a match that ended at n.
 abbrev pub find_next : Replacement → List ℕ → ℕ → Next
 find_next by text place = sends_match by text (next_match false (expression by.pattern) text place)
 

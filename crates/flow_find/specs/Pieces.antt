@@ -12,7 +12,7 @@ piece text s = slice_range text s.0 s.1
 abbrev pub text_product : List ℕ → Product
 text_product text = record { kind = Normal; text = text }
 
--- The last place of a text, where a place is one more than the end of a match, or 0 before the first.
+-- The last place of a text. Place 0 is that before any match, and place n + 1 that behind one that ended at n.
 abbrev pub end_place : List ℕ → ℕ
 end_place text = length text + 1
 

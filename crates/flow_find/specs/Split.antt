@@ -29,7 +29,7 @@ abbrev pub sends_before : List ℕ → ℕ → Option (ℕ × ℕ) → Next
 sends_before text from None = Last (text_product (piece text (from, length text)))
 sends_before text from (Some s) = More (text_product (piece text (from, s.0))) (s.1 + 1)
 
--- The next piece of a text, where the place is one more than the end of the last match, or 0 before the first.
+-- The piece of a text that comes next: at place 0 the first, and at place n + 1 the one behind a match that ended at n.
 abbrev pub piece_next : List ℕ → List ℕ → ℕ → Next
 piece_next pattern text place = sends_before text (place - 1) (option_map span (next_match false (expression pattern) text place))
 

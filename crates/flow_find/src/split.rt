@@ -100,7 +100,7 @@ impl Split {
         })
     }
 
-    // The next piece, where the place is one more than the end of the last match, or 0 before the first.
+    // The piece that comes next. Place 0 is that before any match, and place n + 1 that behind one that ended at n.
     fn next_cut(&mut self, text: &[u8], place: usize) -> Result<Cut, AllocError>
         requires within { place ≤ end_place text.now }
         ensures same { self.new ≡ self.old }

@@ -1,22 +1,19 @@
 -- What stands behind a dollar as a name, in braces and without, and which group it calls.
-use Rattle.std.proofs.Common.{◌≡◌, ℕ, ◌+◌, ◌≤◌, ◌==◌, Bool, true, false, ◌&&◌, List, [], ◌∷◌, length, map, take, drop, nat_lt, slice_index, Option, Some, None, option_and_then, if◌then◌else◌, IsUtf8, refl, sym, subst, ap, ◌∙◌, arith, lt-ltb, le-ltb, eqb-true, true≢false}
+use Rattle.std.proofs.Common.{◌≡◌, ℕ, ◌+◌, ◌≤◌, ◌==◌, Bool, true, false, ◌&&◌, List, [], ◌∷◌, length, map, take, nat_lt, slice_index, Option, Some, None, option_and_then, Result, Ok, Err, if◌then◌else◌, IsUtf8, refl, sym, subst, ap, ◌∙◌, arith, lt-ltb, le-ltb}
 use Rattle.std.specs.Prelude.{bytes_eq, position, take_while}
 use Rattle.std.specs.Bool.{then_some}
 use Rattle.std.specs.List.{position_from, position_or_len, prefix_len}
 use Rattle.std.specs.Option.{option_or}
+use Rattle.std.specs.Result.{result_ok}
 use Rattle.std.specs.Str.{is_utf8}
+use Rattle.std.specs.Str.Parse.{ParsesUnsigned}
 use Rattle.std.proofs.lemmas.Bool.{cond-true, cond-false}
 use Rattle.std.proofs.lemmas.List.Folds.{length-prefix_len}
 use Rattle.regex_hir.specs.Text.{is_some_and}
 use Rattle.regex.specs.Templates.{is_name_byte, name_at, number_in, group_called}
-use Rattle.regex.proofs.TemplateLemmas.{name_is_text}
+use Rattle.regex.proofs.TemplateLemmas.{name_is_text, number_parsed}
 use Rattle.regex_syntax.specs.Grammar.{Names}
 use Rattle.flow_pattern.specs.Template.{known, called}
-
--- A brace with what stands behind it.
-pub brace_first : (rest : List ℕ) → (slice_index rest 0 == 123) ≡ true → 123 ∷ drop 1 rest ≡ rest
-brace_first [] e = absurd (true≢false (sym e))
-brace_first (byte ∷ rest) e = ap (λ (first : ℕ). first ∷ rest) (sym (eqb-true byte 123 e))
 
 -- In braces a name goes up to the first that closes, and is one where it is a text.
 module _ (inside : List ℕ) where
@@ -59,6 +56,11 @@ module _ (rest : List ℕ) (bare : (slice_index rest 0 == 123) ≡ false) (n : �
 
   pub name_text : IsUtf8 (take n rest)
   name_text = subst (λ (k : ℕ). IsUtf8 (take k rest)) counted (name_is_text rest)
+
+-- What parses as a number is one.
+pub parsed : {E : Type 0} (name : List ℕ) (r : Result ℕ E) → ParsesUnsigned 64 10 name r → result_ok r ≡ number_in name
+parsed {E} name (Ok n) is = sym (number_parsed {E = E} name (Ok n) is)
+parsed {E} name (Err e) is = sym (number_parsed {E = E} name (Err e) is)
 
 -- A number calls the group that has it.
 pub by_number : (names : Names) (name : List ℕ) (n : ℕ) → number_in name ≡ Some n → called names name ≡ then_some (nat_lt n (length names)) n

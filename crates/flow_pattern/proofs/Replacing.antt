@@ -7,7 +7,7 @@ use Rattle.regex.proofs.SearchLemmas.{matches_after_none, matches_after_some, ma
 use Rattle.regex_meta.proofs.ProgramLemmas.{none_of_option_map, value_of_option_map}
 
 module _ (re : Re) (written : Match → List ℕ) (text : List ℕ) where
-  -- What is left to write, where `after` is one more than the end of the last match, or 0 before the first.
+  -- What is left to write behind the match that ended at `after - 1`; for 0, of which there is none, the whole.
   abbrev pub left : ℕ → List ℕ
   left after = replaced_by written text (after - 1) (matches_after false re text after)
 

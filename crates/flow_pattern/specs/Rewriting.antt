@@ -38,7 +38,7 @@ IsRewritten by text most told = IsWrittenAnew by.pattern (λ match. by.with) tex
 abbrev pub IsRefilled : Replacement → List ℕ → ℕ → Rewritten → Type 0
 IsRefilled by text most told = IsWrittenAnew by.pattern (filled by text) text most told
 
--- What is told of the next match, where `after` is one more than the end of the last one, or 0 before the first: what the template writes there, and
--- where it ends.
+-- What is told of the match that comes next behind one that ended at `after - 1`, or of the first where `after` is 0: what the template writes there,
+-- and where it ends.
 abbrev pub IsNextFilled : Replacement → List ℕ → ℕ → ℕ → Option (Rewritten × ℕ) → Type 0
 IsNextFilled by text after most next = Answers next (next_match false (expression by.pattern) text after) (λ match told. Tells most (filled by text match) told.0 × (told.1 ≡ match.trace.end))

@@ -4,7 +4,7 @@ ghost use Rattle.std.specs.Prelude.{◌≡◌, ◌+◌, ◌<◌, ◌≤◌, ◌=
 ghost use Rattle.std.specs.List.{position_from};
 ghost use Rattle.regex_hir.specs.Text.{is_some_and};
 ghost use Rattle.regex.specs.Names.{names_of};
-ghost use Rattle.regex.specs.Templates.{is_name_byte, name_at};
+ghost use Rattle.regex.specs.Templates.{is_name_byte, name_at, number_in};
 ghost use Rattle.flow_pattern.specs.Template.{called};
 
 use std::str;
@@ -17,18 +17,6 @@ pub(crate) fn behind(text: &[u8], count: usize) -> &[u8]
     &text[count..]
 }
 
-// Whether a text begins with this byte.
-pub(crate) fn begins_with(text: &[u8], first: u8) -> bool
-    requires { 0 < first }
-    ensures value { result ≡ (slice_index text.now 0 == first) }
-    ensures len { IsTrue result → 0 < length text.now }
-{
-    match text {
-        [byte, ..] => *byte == first,
-        [] => false,
-    }
-}
-
 // Whether a byte can stand in a name without braces.
 fn is_of_name(byte: u8) -> bool
     ensures { result ≡ is_name_byte byte }
@@ -36,7 +24,7 @@ fn is_of_name(byte: u8) -> bool
     byte.is_ascii_alphanumeric() || byte == b'_'
 }
 
-// How many bytes at the front can.
+// How far from the front a name without braces goes.
 fn bare_len(text: &[u8]) -> usize
     ensures { result ≡ length (take_while is_name_byte text.now) }
 {
@@ -86,10 +74,10 @@ pub(crate) fn name_at(rest: &[u8]) -> Option<(&str, usize)>
     ensures value { option_map (λ found. (found.0.now, found.1)) result ≡ name_at rest.now }
     ensures within { IfSome result (λ found. (0 < found.1) × (found.1 ≤ length rest.now)) }
 {
-    if begins_with(rest, b'{') {
-        return name_in_braces(behind(rest, 1));
+    match rest {
+        [b'{', inside @ ..] => name_in_braces(inside),
+        _ => bare_name(rest),
     }
-    bare_name(rest)
 }
 
 // Whether a group has this name.
@@ -106,12 +94,19 @@ fn first_with(names: &[Option<String>], name: &str) -> Option<usize>
     names.iter().position(|group| bears(group, name))
 }
 
+// The number that a name is, where it is one.
+fn number_in(name: &str) -> Option<usize>
+    ensures { result ≡ number_in name.now }
+{
+    name.parse().ok()
+}
+
 // The group that this name calls, where there is one.
 pub(crate) fn called(names: &[Option<String>], name: &str) -> Option<usize>
     ensures { result ≡ called (names_of names.now) name.now }
 {
-    match name.parse::<usize>() {
-        Ok(number) => (number < names.len()).then_some(number),
-        Err(_) => first_with(names, name),
+    match number_in(name) {
+        Some(number) => (number < names.len()).then_some(number),
+        None => first_with(names, name),
     }
 }

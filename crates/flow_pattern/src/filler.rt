@@ -46,8 +46,9 @@ impl Drop for Filler {
     }
 }
 
-// What a group spans, by the span of the match and the cells of its groups.
-fn group(
+// Where a group holds what it holds, where it took part. Group 0 is all of the match; a cell is 0 or tells a place and one more.
+#[tactic(auto, unfolding(regex::specs::Search::group_span))]
+fn held_at(
     text: &[u8],
     whole: (usize, usize),
     cells: &[usize],
@@ -82,7 +83,7 @@ fn put_part(
     match *part {
         Part::Byte(byte) => written.put(&[byte]),
         Part::Group(number) => {
-            let Some((from, end)) = group(text, whole, cells, number) else {
+            let Some((from, end)) = held_at(text, whole, cells, number) else {
                 return Ok(());
             };
             written.put(&text[from..end])
@@ -168,7 +169,7 @@ fn refill(
     ensures rewritten { IfOk result (IsWrittenAnew locator.old (λ m. parts_text (group_bytes text.now m) parts.now) text.now most) }
 {
     let mut written = NewText::new(alloc, most);
-    // One more than the end of the last match, or 0 before the first.
+    // 0 until a match came, and then where the last one ended, counted from 1.
     let mut after: usize = 0;
     'matches: while let Some((from, end)) = locator.next(alloc, text, after)? {
         written.put(&text[after.saturating_sub(1)..from])?;

@@ -100,7 +100,7 @@ fn rewrite(
     ensures rewritten { IfOk result (IsRewritten (record { pattern = locator.old; with = with.now }) text.now most) }
 {
     let mut written = NewText::new(alloc, most);
-    // One more than the end of the last match, or 0 before the first.
+    // 0 until a match came, and then where the last one ended, counted from 1.
     let mut after: usize = 0;
     'matches: while let Some((from, end)) = locator.next(alloc, text, after)? {
         written.put(&text[after.saturating_sub(1)..from])?;

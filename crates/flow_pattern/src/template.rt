@@ -5,7 +5,7 @@ ghost use Rattle.regex.specs.Names.{names_of};
 ghost use Rattle.flow_pattern.specs.Pattern.{IsPattern, group_names};
 ghost use Rattle.flow_pattern.specs.Template.{dollar_part, first_part, Spells, IsTemplate};
 
-use crate::calls::{begins_with, behind, called, name_at};
+use crate::calls::{behind, called, name_at};
 use crate::reading::{Slip, names_in};
 use std::alloc::{AllocError, Global};
 
@@ -23,7 +23,7 @@ fn dollar_part(names: &[Option<String>], rest: &[u8]) -> Option<(Part, usize)>
     ensures part { result ≡ dollar_part (names_of names.now) rest.now }
     ensures within { IfSome result (λ found. (0 < found.1) × (found.1 ≤ length rest.now + 1)) }
 {
-    if begins_with(rest, b'$') {
+    if let [b'$', ..] = rest {
         return Some((Part::Byte(b'$'), 2));
     }
     let Some((name, len)) = name_at(rest) else {

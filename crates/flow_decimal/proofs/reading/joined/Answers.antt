@@ -1,6 +1,6 @@
 use Rattle.std.proofs.Common.{ℕ, ◌+◌, ◌*◌, ◌^◌, length, ◌++◌, ◌∙◌, ap, sym}
 use Rattle.std.specs.Str.Parse.{digits_value}
-use Rattle.flow_decimal.proofs.Numerals.{iff-along, front-large, value-append}
+use Rattle.flow_decimal.proofs.Numerals.{iff-along, front-large, two-parts}
 use Rattle.flow_decimal.proofs.reading.joined.Goals as goal
 
 pub returns-in-None : goal.returns-in-None
@@ -11,4 +11,4 @@ returns-in-Some c =
     let front = c.args.front.now in
     let back = c.args.back.now in
     iff-along c.behind.result (c.in-Some.first * 10 ^ length back + digits_value 10 back) (digits_value 10 (front ++ back))
-    (ap (λ (n : ℕ). n * 10 ^ length back + digits_value 10 back) c.in-Some.ensures.1 ∙ sym (value-append front back)) c.behind.ensures
+    (ap (λ (n : ℕ). n * 10 ^ length back + digits_value 10 back) c.in-Some.ensures.1 ∙ sym (two-parts front back)) c.behind.ensures
