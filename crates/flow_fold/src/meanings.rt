@@ -23,13 +23,13 @@ pub fn folder_comes_to_one_outcome<F: Fold>()
     ensures { AtMostOneOutcome (folder_rules F.folding) }
 {}
 
-/// A Glue has sent its stream with each stretch, one that has a text or stands in a substream, as one packet: its texts,
+/// A Glue has sent its stream with each stretch, one that has a text or is a whole substream, as one packet: its texts,
 /// and between each two of them the one that it was made with.
 pub fn glue_keeps_its_meaning()
     ensures { GlueMeaning }
 {}
 
-/// A Count has sent its stream with each stretch, one that has a text or stands in a substream, as one packet: how many
+/// A Count has sent its stream with each stretch, one that has a text or is a whole substream, as one packet: how many
 /// texts it has.
 pub fn count_keeps_its_meaning()
     ensures { CountMeaning Count }

@@ -27,7 +27,7 @@ pub enum PlanFault {
     Capacity(u32),
     /// A port that has its one connection or text already.
     PortTaken(Text, PortRef),
-    /// A text that isn't of its option port's class, or a template for its pattern.
+    /// A text that isn't of its option port's class, or that is no template for the pattern of its process.
     BadOption(Text, PortRef),
     /// A needed port that has neither a connection nor a text.
     PortMissing(Text, Text),

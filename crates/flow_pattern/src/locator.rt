@@ -74,7 +74,7 @@ impl Locator {
     }
 
     /// The span of the leftmost match that starts at `start` or after it. Takes memory where an automaton first gives up.
-    pub fn find(
+    pub(crate) fn find(
         &mut self,
         alloc: Global,
         text: &[u8],

@@ -106,8 +106,8 @@ pub record IsWired (n : Network) : Type 0 where
   pub capacities : (c : ℕ) (x : Connection) → slice_get n.connections c ≡ Some x → (1 ≤ x.capacity) × (x.capacity ≤ CAPACITY_LIMIT)
   pub few_senders : (c : ℕ) (x : Connection) → slice_get n.connections c ≡ Some x → length x.senders ≤ SENDER_LIMIT
 
--- A valid plan: it is wired; names differ; only stream inputs have texts, and none has two; each output that is needed sends to a connection; each option port that is needed has its option, and
--- each port its elements; and the capacities together are within their limit.
+-- A valid plan: it is wired; names differ; only stream inputs have texts, and none has two; each output that is needed sends to a connection; each option is of its port's class, a template
+-- besides one for the pattern of its process, and each option port that is needed has one; each port has its elements; and the capacities together are within their limit.
 pub record IsValid (n : Network) : Type 0 where
   pub wired : IsWired n
   pub names : (p q : ℕ) (x y : Process) → slice_get n.processes p ≡ Some x → slice_get n.processes q ≡ Some y → x.name ≡ y.name → p ≡ q

@@ -8,6 +8,12 @@ use crate::tuned::{BEFORE_TRIALS, BURST_LIMIT, FIRST_PAUSE, LONGEST_PAUSE};
 use crossbeam_utils::CachePadded;
 use std::sync::atomic::{AtomicU64, Ordering};
 
+/// The beat of a worker that doesn't serve yet: perhaps its thread can't be started.
+pub(crate) const ABSENT: u64 = 0;
+
+/// The beat of a worker that serves, and wasn't at work yet.
+pub(crate) const THERE: u64 = 2;
+
 /// The beat of a worker that serves no more.
 pub(crate) const GONE: u64 = u64::MAX;
 
@@ -23,7 +29,7 @@ pub(crate) struct Told {
 impl Told {
     fn new() -> Told {
         Told {
-            beat: AtomicU64::new(0),
+            beat: AtomicU64::new(ABSENT),
             turns: AtomicU64::new(0),
             burst: AtomicU64::new(1),
             process: AtomicU64::new(0),

@@ -212,6 +212,7 @@ pub(crate) fn attend<K: Component + Send, G: Gate + Sync, R: Wait>(
     ensures follows { FollowsAll (posts_of lines.now) server.old server.new }
     ensures served { HasServed budget server.old.worker server.new.worker }
 {
+    server.watch.comes(lines);
     match budget {
         None => attend_on(rt, floor, lines, server, gate),
         Some(turns) => attend_for(rt, floor, lines, server, gate, turns),

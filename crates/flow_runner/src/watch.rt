@@ -4,7 +4,7 @@ ghost use Rattle.std.specs.Prelude.{◌≡◌, ◌<◌, ◌≤◌, ℕ, IfOk, If
 
 use crate::judge::{Judge, Sight};
 use crate::line::LinePass;
-use crate::lines::{GONE, Lines, Post};
+use crate::lines::{ABSENT, GONE, Lines, Post, THERE};
 use crate::tuned::TRIAL_MICROS;
 use std::alloc::{AllocError, Global};
 use std::sync::Wait;
@@ -70,13 +70,20 @@ impl Watch {
         Ok(Watch {
             number,
             seen: vec![in alloc; Seen {
-                beat: 0,
+                beat: ABSENT,
                 turns: 0,
                 process: 0
             }; workers]?,
             judge: Judge::new(workers),
-            beat: 0,
+            beat: THERE,
         })
+    }
+
+    /// It serves from now on: only who helps takes from its line.
+    pub(crate) fn comes(&self, lines: &Lines)
+        requires { Watches (posts_of lines.now) self.now }
+    {
+        lines.posts[self.number].set_beat(self.beat);
     }
 
     /// It tends this process, which it took, and comes to work if it rested.
@@ -172,7 +179,7 @@ impl Watch {
         }
     }
 
-    /// The first process of this line, if its worker is gone; or, where others may be helped, at work.
+    /// The first process of this line, if its worker doesn't serve, not yet or no more; or, where others may be helped, is at work.
     fn take_at<R: Wait>(
         &self,
         rt: &R,
@@ -188,7 +195,7 @@ impl Watch {
         ensures range { (n : ℕ) → AreRoomFor n (posts_of lines.now) → IfSome result (λ q. q < n) }
     {
         let beat = lines.posts[other].beat();
-        let may_take = beat == GONE || (may_help && beat & 1 == 1);
+        let may_take = beat == ABSENT || beat == GONE || (may_help && beat & 1 == 1);
         if !may_take {
             return None;
         }
