@@ -2,7 +2,7 @@
 //! elsewhere, and nothing in a report says where.
 ghost use Rattle.flow_offer.specs.Kinds.{AreOwnKinds};
 
-use crate::found::{Found, Walk, Wanted, find_in};
+use crate::found::{Found, Walk, Wanted, find, find_in};
 use crate::kinds::{Side, ports, row, table_for};
 use crate::net::put_found;
 use crate::pieces::is_line_end;
@@ -80,9 +80,13 @@ fn put_process(
     let Some(name) = mention.kind else {
         return Ok(());
     };
-    match row(kinds, name) {
-        Some(kind) => put_outputs(alloc, page, net, kind, found, mention.process),
-        None => Ok(()),
+    let Some(kind) = row(kinds, name) else {
+        return Ok(());
+    };
+    // A subnet may bear the name of a kind, and then it is meant.
+    match find(alloc, net, &Wanted::Subnet(name))? {
+        Some(_) => Ok(()),
+        None => put_outputs(alloc, page, net, kind, found, mention.process),
     }
 }
 
