@@ -1,0 +1,3 @@
+pub mod FlatStream
+pub mod EndHeard
+pub mod FlatEnd
