@@ -1,5 +1,5 @@
 -- A Flat that was started and has come to its end has heard the end of its input.
-use Rattle.std.proofs.Common.{◌≡◌, ◌⊎◌, ℕ, ◌<◌, List, [], sym, subst, arith, inl, inr}
+use Rattle.std.proofs.Common.{◌⊎◌, ℕ, sym, subst, arith, inl, inr}
 use Rattle.flow_packet.specs.declared.packet.Kind.{Kind}
 use Rattle.flow_packet.specs.declared.packet.Kind.TheVariants.{Normal, Open, Close}
 use Rattle.flow_packet.specs.Tree.{id_of}
@@ -10,8 +10,9 @@ use Rattle.flow_component.specs.Ports.{one_to_one, uses_first}
 use Rattle.flow_component.specs.Happenings.{Happening, Started, Received, Ended, Sent, Learned}
 use Rattle.flow_component.specs.Runs.{Poise, Steps, IsEnd}
 use Rattle.flow_component.proofs.Streams.{stays-allowed}
-use Rattle.flow_group.specs.Flat.{takes_off, flat_rules, FlatHears}
+use Rattle.flow_group.specs.Flat.{takes_off, flat_rules}
 use Rattle.flow_group.specs.FlatLaws.{flat_lawful}
+use Rattle.flow_group.specs.Meanings.{FlatHears}
 use Rattle.flow_group.proofs.EndHeard.{OneInput, StaysOn, end-heard}
 
 module _ {K : Type 0} where

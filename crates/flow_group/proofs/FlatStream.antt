@@ -1,5 +1,5 @@
 -- What a Flat sends is its stream without the brackets.
-use Rattle.std.proofs.Common.{◌≡◌, ℕ, ◌+◌, ◌<◌, Bool, true, false, List, [], ◌∷◌, ◌++◌, Some, nat_eq, cond, refl, sym, ap, ◌∙◌, subst, arith}
+use Rattle.std.proofs.Common.{◌≡◌, ◌<◌, true, List, [], ◌∷◌, ◌++◌, Some, nat_eq, cond, refl, sym, ap, ◌∙◌, subst}
 use Rattle.flow_packet.specs.declared.packet.Kind.{Kind}
 use Rattle.flow_packet.specs.declared.packet.Kind.TheVariants.{Normal, Open, Close}
 use Rattle.flow_packet.specs.Tree.{Tree, content, id_of, kind_of}
@@ -13,8 +13,9 @@ use Rattle.flow_component.specs.Happenings.{Happening, Started, Received, Ended,
 use Rattle.flow_component.specs.Runs.{Poise, fresh, Steps, Runs, got, sent}
 use Rattle.flow_component.proofs.Lone.{HoldsOnly-packet_at, HoldsOnly-kind, HoldsOnly-end}
 use Rattle.flow_component.proofs.Streams.{Comes-packets, contents_in, content-kind, port_below_one, port_zero, stays-allowed}
-use Rattle.flow_group.specs.Flat.{takes_off, flat_next, flat_rules, is_plain, flattened, FlatMeaning}
+use Rattle.flow_group.specs.Flat.{takes_off, flat_next, flat_rules, is_plain}
 use Rattle.flow_group.specs.FlatLaws.{flat_lawful}
+use Rattle.flow_group.specs.Meanings.{flattened, FlatMeaning}
 
 -- With this wish, y is to be sent where x is to come.
 abbrev FromWish : Held → Wish → List Tree → List Tree → Type 0

@@ -1,18 +1,15 @@
 -- The component that takes brackets off: it drops them, and passes the other packets on. It has no state of its own.
-use Rattle.std.specs.Prelude.{◌≡◌, ◌≢◌, ℕ, Bool, true, false, List, [], filter}
+use Rattle.std.specs.Prelude.{◌≡◌, ℕ, Bool, true, false, []}
 use Rattle.flow_packet.specs.declared.packet.Kind.{Kind}
 use Rattle.flow_packet.specs.declared.packet.Kind.TheVariants.{Normal, Open, Close}
-use Rattle.flow_packet.specs.Tree.{Tree, kind_of}
 use Rattle.flow_packet.specs.Hands.{kind_at}
 use Rattle.flow_packet.specs.Held.{Held, without_packet}
 use Rattle.flow_component.specs.declared.Answer.{Answer}
 use Rattle.flow_component.specs.declared.Answer.TheVariants as answers
 use Rattle.flow_component.specs.declared.Wish.TheVariants.{Deactivate}
 use Rattle.flow_component.specs.Alone.{HoldsOnly}
-use Rattle.flow_component.specs.Happenings.{Happening}
 use Rattle.flow_component.specs.Laws.{Rules, Outcome, Wishes}
 use Rattle.flow_component.specs.Ports.{one_to_one, uses_first, receive_first, send_first}
-use Rattle.flow_component.specs.Runs.{EndedRun, HeardEnd, got, sent}
 
 -- A packet of this kind comes: a Normal one is passed on, a bracket is dropped.
 abbrev pub takes_off : {K : Type 0} → K → Held → ℕ → Kind → Outcome K
@@ -50,15 +47,3 @@ abbrev pub is_plain : Kind → Bool
 is_plain Normal = true
 is_plain Open = false
 is_plain Close = false
-
--- A stream without its brackets.
-abbrev pub flattened : List Tree → List Tree
-flattened stream = filter (λ packet. is_plain (kind_of packet)) stream
-
--- A Flat sends its stream without the brackets.
-abbrev pub FlatMeaning : Type 0 → Type 0
-FlatMeaning K = (component : K) (told : List Happening) → EndedRun flat_rules component told → sent 0 told ≡ flattened (got 0 told)
-
--- One that was started and has come to its end has heard the end of its input.
-abbrev pub FlatHears : Type 0 → Type 0
-FlatHears K = (component : K) (told : List Happening) → EndedRun flat_rules component told → told ≢ [] → HeardEnd 0 told

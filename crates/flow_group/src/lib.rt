@@ -4,9 +4,14 @@
 #![tactic(auto)]
 
 mod flat;
+mod group;
 mod meanings;
 mod outcomes;
 
 pub use flat::Flat;
-pub use meanings::{flat_hears_the_end, flat_keeps_its_meaning};
+pub use group::{Group, GroupPlace};
+pub use meanings::{
+    flat_hears_the_end, flat_keeps_its_meaning, flat_undoes_group, group_hears_the_end,
+    group_keeps_its_meaning, rows_are_the_only_ones,
+};
 pub use outcomes::each_comes_to_one_outcome;
