@@ -16,6 +16,7 @@ use Rattle.flow_streams.specs.declared.select.SelectPlace.TheVariants.{Waiting}
 use Rattle.flow_streams.specs.Select.{select_uses}
 use Rattle.flow_pick.specs.Picking.{parting_uses}
 use Rattle.flow_map.specs.Mapping.{mapper_uses}
+use Rattle.flow_group.specs.Group.{group_uses}
 use Rattle.flow_batch.specs.Update.{update_uses}
 use Rattle.flow_batch.specs.Updated.{fresh_update}
 use Rattle.flow_match.specs.Match.{match_uses}
@@ -81,6 +82,12 @@ mapped-used network p has zero used = has
 mapped-used network p has (suc zero) used = absurd (false≢true used)
 mapped-used network p has (suc (suc o)) used = absurd (other-than o 0 1 (omega arith) (omega arith) false used)
 
+-- and one that groups
+group-used : (network : Network) (p : ℕ) → HasSender network p 0 → (o : ℕ) → IsTrue (group_uses (is_connected network p 1) o) → HasSender network p o
+group-used network p has zero used = has
+group-used network p has (suc zero) used = connected-sends network p 1 used
+group-used network p has (suc (suc o)) used = absurd (other-than o 0 1 (omega arith) (omega arith) (is_connected network p 1) used)
+
 match-used : (network : Network) (p : ℕ) (pattern : List ℕ) → HasSender network p 0 → (o : ℕ) → IsTrue (match_uses (record { pattern = pattern; rejects = is_connected network p 1 }) o) → HasSender network p o
 match-used network p pattern has zero used = has
 match-used network p pattern has (suc zero) used = connected-sends network p 1 used
@@ -122,3 +129,5 @@ first-fits n p x kinds.Split file is = record { inputs = sym is.inputs; outputs 
 first-fits n p x kinds.Rewrite file is = record { inputs = sym is.inputs; outputs = sym is.outputs; uses = parting-used n p (is.needed 0 refl); starts = λ held none. (tt, none) }
 first-fits n p x kinds.Glue file is = record { inputs = sym is.inputs; outputs = sym is.outputs; uses = first-used n p (is.needed 0 refl); starts = λ held none. (tt, none) }
 first-fits n p x kinds.Where file is = record { inputs = sym is.inputs; outputs = sym is.outputs; uses = parting-used n p (is.needed 0 refl); starts = λ held none. none }
+first-fits n p x kinds.Group file is = record { inputs = sym is.inputs; outputs = sym is.outputs; uses = group-used n p (is.needed 0 refl); starts = λ held none. (tt, none) }
+first-fits n p x kinds.Flat file is = record { inputs = sym is.inputs; outputs = sym is.outputs; uses = first-used n p (is.needed 0 refl); starts = λ held none. none }

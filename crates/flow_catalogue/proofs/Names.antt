@@ -48,6 +48,8 @@ place-of kinds.Split = (25, refl)
 place-of kinds.Rewrite = (26, refl)
 place-of kinds.Glue = (27, refl)
 place-of kinds.Where = (28, refl)
+place-of kinds.Group = (29, refl)
+place-of kinds.Flat = (30, refl)
 
 -- a name is among the names that have it at a place
 among : (name : List ℕ) (names : List (List ℕ)) (i : ℕ) → slice_get names i ≡ Some name → list_any (bytes_eq name) names ≡ true

@@ -77,6 +77,11 @@ use Rattle.flow_fold.specs.Glue.{GluedState, glue_folding}
 use Rattle.flow_fold.specs.GlueLaws.{glue_laws}
 use Rattle.flow_where.specs.Where.{WhereState, where_picker, where_rules}
 use Rattle.flow_where.specs.WhereLaws.{where_lawful}
+use Rattle.flow_group.specs.Group.{GroupState, group_next, group_rules}
+use Rattle.flow_group.specs.GroupLaws.{group_lawful}
+use Rattle.flow_group.specs.declared.flat.Flat.{Flat}
+use Rattle.flow_group.specs.Flat.{flat_next, flat_rules}
+use Rattle.flow_group.specs.FlatLaws.{flat_lawful}
 use Rattle.flow_catalogue.specs.Kinded.{Kinded}
 
 -- Reads the lines of its file.
@@ -194,3 +199,11 @@ glue_kind = record { rules = folder_rules glue_folding; lawful = folder_lawful g
 -- Accepts packets whose text is a number within a bound.
 abbrev pub where_kind : Kinded WhereState
 where_kind = record { rules = where_rules; lawful = where_lawful; next = picker_next where_picker; comes = λ _ _ _. refl; alone = λ _ _ _ _ is. is; written = λ _. None }
+
+-- Puts brackets round its rows.
+abbrev pub group_kind : Kinded GroupState
+group_kind = record { rules = group_rules; lawful = group_lawful; next = group_next; comes = λ _ _ _. refl; alone = λ _ _ _ _ is. is; written = λ _. None }
+
+-- Takes brackets off.
+abbrev pub flat_kind : Kinded Flat
+flat_kind = record { rules = flat_rules; lawful = flat_lawful; next = flat_next; comes = λ _ _ _. refl; alone = λ _ _ _ _ is. is; written = λ _. None }

@@ -5,7 +5,7 @@ use Rattle.flow_plan.specs.declared.kind.PortClass.TheVariants.{Number, Fields, 
 use Rattle.flow_plan.specs.declared.kind.PortSpec.{PortSpec}
 use Rattle.flow_plan.specs.declared.kind.KindSpec.{KindSpec}
 use Rattle.flow_catalogue.specs.declared.table.StdKind.{StdKind}
-use Rattle.flow_catalogue.specs.declared.table.StdKind.TheVariants.{ReadLines, WriteLines, Passthru, Words, Fill, Brackets, Copy, Concat, Collate, Discard, Bundle, Unbundle, Hoard, Count, LoadBalance, Select, Update, Tally, Unique, Head, Tail, Match, Replace, Sort, Find, Split, Rewrite, Glue, Where}
+use Rattle.flow_catalogue.specs.declared.table.StdKind.TheVariants.{ReadLines, WriteLines, Passthru, Words, Fill, Brackets, Copy, Concat, Collate, Discard, Bundle, Unbundle, Hoard, Count, LoadBalance, Select, Update, Tally, Unique, Head, Tail, Match, Replace, Sort, Find, Split, Rewrite, Glue, Where, Group, Flat}
 use Rattle.flow_catalogue.specs.Rows.{option_port, optional_option_port, stream_port, array_port, optional_port}
 
 -- A kind of this name, with these ports.
@@ -43,6 +43,8 @@ spec_of Split = row (codes "Split") (option_port (codes "PATTERN") Pattern ∷ o
 spec_of Rewrite = row (codes "Rewrite") (option_port (codes "PATTERN") Pattern ∷ option_port (codes "WITH") (Template 0) ∷ stream_port (codes "IN") ∷ []) (stream_port (codes "OUT") ∷ optional_port (codes "REST") ∷ [])
 spec_of Glue = row (codes "Glue") (option_port (codes "WITH") Text ∷ stream_port (codes "IN") ∷ []) (stream_port (codes "OUT") ∷ [])
 spec_of Where = row (codes "Where") (option_port (codes "IS") Bound ∷ stream_port (codes "IN") ∷ []) (stream_port (codes "ACC") ∷ optional_port (codes "REJ") ∷ [])
+spec_of Group = row (codes "Group") (optional_option_port (codes "KEY") Pattern ∷ stream_port (codes "IN") ∷ []) (stream_port (codes "OUT") ∷ optional_port (codes "REST") ∷ [])
+spec_of Flat = row (codes "Flat") (stream_port (codes "IN") ∷ []) (stream_port (codes "OUT") ∷ [])
 
 -- A kind's name in a network file.
 abbrev pub name_of : StdKind → List ℕ
@@ -50,7 +52,7 @@ name_of kind = (spec_of kind).name
 
 -- All standard kinds, in the order of the table.
 abbrev pub all_kinds : List StdKind
-all_kinds = ReadLines ∷ WriteLines ∷ Passthru ∷ Words ∷ Fill ∷ Brackets ∷ Copy ∷ Concat ∷ Collate ∷ Discard ∷ Bundle ∷ Unbundle ∷ Hoard ∷ Count ∷ LoadBalance ∷ Select ∷ Update ∷ Tally ∷ Unique ∷ Head ∷ Tail ∷ Match ∷ Replace ∷ Sort ∷ Find ∷ Split ∷ Rewrite ∷ Glue ∷ Where ∷ []
+all_kinds = ReadLines ∷ WriteLines ∷ Passthru ∷ Words ∷ Fill ∷ Brackets ∷ Copy ∷ Concat ∷ Collate ∷ Discard ∷ Bundle ∷ Unbundle ∷ Hoard ∷ Count ∷ LoadBalance ∷ Select ∷ Update ∷ Tally ∷ Unique ∷ Head ∷ Tail ∷ Match ∷ Replace ∷ Sort ∷ Find ∷ Split ∷ Rewrite ∷ Glue ∷ Where ∷ Group ∷ Flat ∷ []
 
 -- The table.
 abbrev pub std_kinds : List KindSpec
@@ -63,6 +65,8 @@ since Split = 3
 since Rewrite = 3
 since Glue = 3
 since Where = 3
+since Group = 3
+since Flat = 3
 since _ = 1
 
 -- A network file of this version may name the kind.

@@ -33,6 +33,7 @@ use Rattle.flow_map.specs.Mapping.{waiting}
 use Rattle.flow_fold.specs.declared.folder.Stretch.TheVariants.{Bare}
 use Rattle.flow_fold.specs.Folding.{beginning}
 use Rattle.flow_fold.specs.Glue.{glue_folding}
+use Rattle.flow_group.specs.Group.{fresh_group}
 use Rattle.flow_catalogue.specs.declared.table.StdKind.{StdKind}
 use Rattle.flow_catalogue.specs.declared.table.StdKind.TheVariants as kinds
 use Rattle.flow_catalogue.specs.declared.standard.Std.{Std}
@@ -74,6 +75,11 @@ length_of_keys (c ∷ cs) = Some (sum (fields_of (c ∷ cs)))
 abbrev pub template_of : List ℕ → List ℕ
 template_of [] = whole_match
 template_of (c ∷ cs) = c ∷ cs
+
+-- The pattern that a text is, where an empty one, or none, stands for no pattern.
+abbrev pub pattern_of : List ℕ → Option (List ℕ)
+pattern_of [] = None
+pattern_of (c ∷ cs) = Some (c ∷ cs)
 
 -- The text says yes.
 abbrev pub is_yes : List ℕ → Bool
@@ -139,6 +145,8 @@ first_component kinds.Split given file = components.Split (waiting (record { pat
 first_component kinds.Rewrite given file = components.Rewrite (waiting (record { by = record { pattern = given.option 0; with = given.option 1 }; rest = given.connected 1 }))
 first_component kinds.Glue given file = components.Glue (beginning glue_folding (given.option 0) Bare)
 first_component kinds.Where given file = components.Where (record { bound = bound_of (given.option 0); rejects = given.connected 1 })
+first_component kinds.Group given file = components.Group (fresh_group (pattern_of (given.option 0)) (given.connected 1))
+first_component kinds.Flat given file = components.Flat (record {})
 
 -- The component is that of process p, in its first state on this file.
 pub record IsMade (network : Network) (p : ℕ) (process : Process) (file : List ℕ) (component : Std) : Type 0 where

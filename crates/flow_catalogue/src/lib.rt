@@ -6,6 +6,7 @@
 mod options;
 mod plans;
 mod process;
+mod row;
 mod spelled;
 mod standard;
 mod table;

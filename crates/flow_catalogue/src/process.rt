@@ -11,10 +11,11 @@ ghost use Rattle.flow_catalogue.specs.Files.{UsesFile, NamesFile};
 
 use crate::options::{fields, is_connected, number as number_in, option_text};
 use crate::plans::a_first_component_fits;
-use crate::spelled::{bounding, finding, gluing, rewriting, splitting};
+use crate::spelled::{bounding, finding, gluing, grouping, rewriting, splitting};
 use crate::standard::Std;
 use crate::table::StdKind;
 use flow_batch::Update;
+use flow_group::Flat;
 use flow_limits::TEXT_LIMIT;
 use flow_match::{Match, Replace};
 use flow_parts::{Brackets, Count, Fill, ReadLines, Tally, Words, WriteLines};
@@ -193,6 +194,11 @@ fn first_component(
         }
         StdKind::Glue => Ok(Std::Glue(gluing(alloc, process)?)),
         StdKind::Where => Ok(Std::Where(bounding(process, is_connected(plan, number, 1)))),
+        StdKind::Group => {
+            let rest = is_connected(plan, number, 1);
+            Ok(Std::Group(grouping(alloc, process, rest)?))
+        }
+        StdKind::Flat => Ok(Std::Flat(Flat::new())),
     }
 }
 

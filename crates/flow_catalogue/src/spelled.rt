@@ -1,4 +1,4 @@
-//! The components whose options are templates, bounds, words and texts, in their first states.
+//! The components whose options are templates, bounds, words, texts and keys, in their first states.
 
 ghost use Rattle.std.specs.Prelude.{◌≡◌, IfOk};
 ghost use Rattle.flow_decimal.specs.Bounds.{bound_reading};
@@ -7,15 +7,18 @@ ghost use Rattle.flow_map.specs.Mapping.{waiting};
 ghost use Rattle.flow_fold.specs.declared.folder.Stretch.{Stretch};
 ghost use Rattle.flow_fold.specs.Folding.{beginning};
 ghost use Rattle.flow_fold.specs.Glue.{glue_folding};
+ghost use Rattle.flow_group.specs.Group.{fresh_group};
 ghost use Rattle.flow_catalogue.specs.Kinds.{spec_of};
 ghost use Rattle.flow_catalogue.specs.Rows.{HasOptions};
-ghost use Rattle.flow_catalogue.specs.Processes.{bound_of, is_yes, option_text, template_of};
+ghost use Rattle.flow_catalogue.specs.Processes.{bound_of, is_yes, option_text, pattern_of, template_of};
 
 use crate::options::option_text;
 use crate::table::StdKind;
 use flow_decimal::Bound;
 use flow_find::{Find, Rewrite, Split};
 use flow_fold::{Folder, Glue};
+use flow_group::Group;
+use flow_key::Key;
 use flow_map::Mapper;
 use flow_plan::Process;
 use flow_where::Where;
@@ -101,4 +104,25 @@ pub fn bounding(process: &Process, rejects: bool) -> Where
     ensures { result ≡ record { bound = bound_of (option_text 0 process.now.options); rejects = rejects } }
 {
     Where::new(bound(option_text(process, 0)), rejects)
+}
+
+// How keys are found: by the pattern that is given, or, where none is, as whole texts.
+fn key(alloc: Global, process: &Process) -> Result<Key, AllocError>
+    requires options { HasOptions (spec_of StdKind.Group).inputs process.now.options }
+    ensures { IfOk result (λ key. key ≡ pattern_of (option_text 0 process.now.options)) }
+{
+    let pattern = option_text(process, 0);
+    if pattern.is_empty() {
+        return Ok(Key::whole());
+    }
+    Key::found(alloc, pattern)
+}
+
+/// A Group; `rest` tells whether its second output is connected.
+pub fn grouping(alloc: Global, process: &Process, rest: bool) -> Result<Group, AllocError>
+    requires options { HasOptions (spec_of StdKind.Group).inputs process.now.options }
+    ensures { IfOk result (λ group. group ≡ fresh_group (pattern_of (option_text 0 process.now.options)) rest) }
+{
+    let key = key(alloc, process)?;
+    Ok(Group::new(alloc, key, rest))
 }

@@ -9,6 +9,7 @@ use flow_batch::Update;
 use flow_component::{Answer, Component, Shape, Stop, Wish};
 use flow_find::{Find, Rewrite, Split};
 use flow_fold::{Folder, Glue};
+use flow_group::{Flat, Group};
 use flow_map::Mapper;
 use flow_match::{Match, Replace};
 use flow_packet::Hands;
@@ -53,6 +54,8 @@ pub enum Std {
     Rewrite(Mapper<Rewrite>),
     Glue(Folder<Glue>),
     Where(Where),
+    Group(Group),
+    Flat(Flat),
 }
 
 impl Std {
@@ -108,6 +111,8 @@ impl Component for Std {
             Std::Rewrite(component) => component.shape(),
             Std::Glue(component) => component.shape(),
             Std::Where(component) => component.shape(),
+            Std::Group(component) => component.shape(),
+            Std::Flat(component) => component.shape(),
         }
     }
 
@@ -143,6 +148,8 @@ impl Component for Std {
             Std::Rewrite(component) => component.resume(hands, answer),
             Std::Glue(component) => component.resume(hands, answer),
             Std::Where(component) => component.resume(hands, answer),
+            Std::Group(component) => component.resume(hands, answer),
+            Std::Flat(component) => component.resume(hands, answer),
         }
     }
 

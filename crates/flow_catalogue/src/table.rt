@@ -1,12 +1,13 @@
 //! The table of the standard kinds.
 
-ghost use Rattle.std.specs.Prelude.{◌≡◌, ◌≢◌, ◌∷◌, [], IfOk, MatchOption, codes};
-ghost use Rattle.flow_catalogue.specs.Kinds.{name_of, row, since, spec_of, std_kinds, std_kinds_of};
-ghost use Rattle.flow_catalogue.specs.Rows.{option_port, optional_option_port, stream_port, array_port, optional_port};
+ghost use Rattle.std.specs.Prelude.{◌≡◌, ◌≢◌, IfOk, MatchOption};
+ghost use Rattle.flow_catalogue.specs.Kinds.{name_of, since, spec_of, std_kinds, std_kinds_of};
 
-use flow_items::{Items, Text};
+use crate::row::{
+    array, counting, ending, kind, option, optional, optional_option, passing, spreading, stream,
+};
 use flow_limits::TEXT_LIMIT;
-use flow_plan::{KindSpec, PortClass, PortSpec};
+use flow_plan::{KindSpec, PortClass};
 use std::alloc::{AllocError, Global};
 
 /// The kinds of the standard components.
@@ -41,10 +42,12 @@ pub enum StdKind {
     Rewrite,
     Glue,
     Where,
+    Group,
+    Flat,
 }
 
 // All kinds, in the order of the table.
-const ALL: [StdKind; 29] = [
+const ALL: [StdKind; 31] = [
     StdKind::ReadLines,
     StdKind::WriteLines,
     StdKind::Passthru,
@@ -74,6 +77,8 @@ const ALL: [StdKind; 29] = [
     StdKind::Rewrite,
     StdKind::Glue,
     StdKind::Where,
+    StdKind::Group,
+    StdKind::Flat,
 ];
 
 impl StdKind {
@@ -111,6 +116,8 @@ impl StdKind {
             StdKind::Rewrite => b"Rewrite",
             StdKind::Glue => b"Glue",
             StdKind::Where => b"Where",
+            StdKind::Group => b"Group",
+            StdKind::Flat => b"Flat",
         }
     }
 
@@ -119,7 +126,13 @@ impl StdKind {
         ensures { result ≡ since self }
     {
         match self {
-            StdKind::Find | StdKind::Split | StdKind::Rewrite | StdKind::Glue | StdKind::Where => 3,
+            StdKind::Find
+            | StdKind::Split
+            | StdKind::Rewrite
+            | StdKind::Glue
+            | StdKind::Where
+            | StdKind::Group
+            | StdKind::Flat => 3,
             _ => 1,
         }
     }
@@ -135,101 +148,6 @@ impl StdKind {
         }
         None
     }
-}
-
-// A port that takes one text before the network runs.
-fn option(alloc: Global, name: &[u8], class: PortClass) -> Result<PortSpec, AllocError>
-    ensures { IfOk result (λ port. port ≡ option_port name.now class) }
-{
-    Ok(PortSpec {
-        name: Text::from_slice(alloc, name)?,
-        class,
-        array: false,
-        needed: true,
-    })
-}
-
-// A port that takes one text before the network runs, or none.
-fn optional_option(alloc: Global, name: &[u8], class: PortClass) -> Result<PortSpec, AllocError>
-    ensures { IfOk result (λ port. port ≡ optional_option_port name.now class) }
-{
-    Ok(PortSpec {
-        name: Text::from_slice(alloc, name)?,
-        class,
-        array: false,
-        needed: false,
-    })
-}
-
-// A port for packets that has to be connected.
-fn stream(alloc: Global, name: &[u8]) -> Result<PortSpec, AllocError>
-    ensures { IfOk result (λ port. port ≡ stream_port name.now) }
-{
-    option(alloc, name, PortClass::Stream)
-}
-
-// A port for packets with elements.
-fn array(alloc: Global, name: &[u8]) -> Result<PortSpec, AllocError>
-    ensures { IfOk result (λ port. port ≡ array_port name.now) }
-{
-    Ok(PortSpec {
-        name: Text::from_slice(alloc, name)?,
-        class: PortClass::Stream,
-        array: true,
-        needed: true,
-    })
-}
-
-// An output that may be left open.
-fn optional(alloc: Global, name: &[u8]) -> Result<PortSpec, AllocError>
-    ensures { IfOk result (λ port. port ≡ optional_port name.now) }
-{
-    optional_option(alloc, name, PortClass::Stream)
-}
-
-// A row of the table.
-fn kind(
-    alloc: Global,
-    name: &[u8],
-    inputs: Vec<PortSpec>,
-    outputs: Vec<PortSpec>,
-) -> Result<KindSpec, AllocError>
-    ensures { IfOk result (λ kind. kind ≡ row name.now inputs.items outputs.items) }
-{
-    Ok(KindSpec {
-        name: Text::from_slice(alloc, name)?,
-        inputs: Items::of(inputs),
-        outputs: Items::of(outputs),
-    })
-}
-
-// A row with one input for packets and one output.
-fn passing(alloc: Global, name: &[u8]) -> Result<KindSpec, AllocError>
-    ensures { IfOk result (λ kind. kind ≡ row name.now (stream_port (codes "IN") ∷ []) (stream_port (codes "OUT") ∷ [])) }
-{
-    let input = stream(alloc, b"IN")?;
-    let output = stream(alloc, b"OUT")?;
-    let inputs = vec![in alloc; input]?;
-    kind(alloc, name, inputs, vec![in alloc; output]?)
-}
-
-// A row with one input for packets and no output.
-fn ending(alloc: Global, name: &[u8]) -> Result<KindSpec, AllocError>
-    ensures { IfOk result (λ kind. kind ≡ row name.now (stream_port (codes "IN") ∷ []) []) }
-{
-    let input = stream(alloc, b"IN")?;
-    let inputs = vec![in alloc; input]?;
-    kind(alloc, name, inputs, Vec::new(alloc))
-}
-
-// A row with one input for packets and an array of outputs.
-fn spreading(alloc: Global, name: &[u8]) -> Result<KindSpec, AllocError>
-    ensures { IfOk result (λ kind. kind ≡ row name.now (stream_port (codes "IN") ∷ []) (array_port (codes "OUT") ∷ [])) }
-{
-    let input = stream(alloc, b"IN")?;
-    let output = array(alloc, b"OUT")?;
-    let inputs = vec![in alloc; input]?;
-    kind(alloc, name, inputs, vec![in alloc; output]?)
 }
 
 fn read_lines(alloc: Global) -> Result<KindSpec, AllocError>
@@ -356,22 +274,6 @@ fn unique(alloc: Global) -> Result<KindSpec, AllocError>
     kind(alloc, b"Unique", inputs, vec![in alloc; output, repeats]?)
 }
 
-// A row with a number of packets, one input for packets, an output for so many of them, and one for the rest.
-fn counting(alloc: Global, name: &[u8]) -> Result<KindSpec, AllocError>
-    ensures { IfOk result (λ kind. kind ≡ row name.now (option_port (codes "COUNT") (PortClass.Number 0 4294967295) ∷ stream_port (codes "IN") ∷ []) (stream_port (codes "OUT") ∷ optional_port (codes "REST") ∷ [])) }
-{
-    let numbers = PortClass::Number {
-        least: 0,
-        most: u32::MAX as u64,
-    };
-    let count = option(alloc, b"COUNT", numbers)?;
-    let input = stream(alloc, b"IN")?;
-    let output = stream(alloc, b"OUT")?;
-    let rest = optional(alloc, b"REST")?;
-    let inputs = vec![in alloc; count, input]?;
-    kind(alloc, name, inputs, vec![in alloc; output, rest]?)
-}
-
 fn sort(alloc: Global) -> Result<KindSpec, AllocError>
     ensures { IfOk result (λ kind. kind ≡ spec_of StdKind.Sort) }
 {
@@ -437,6 +339,17 @@ fn bounding(alloc: Global) -> Result<KindSpec, AllocError>
     kind(alloc, b"Where", inputs, vec![in alloc; accepted, others]?)
 }
 
+fn grouping(alloc: Global) -> Result<KindSpec, AllocError>
+    ensures { IfOk result (λ kind. kind ≡ spec_of StdKind.Group) }
+{
+    let key = optional_option(alloc, b"KEY", PortClass::Pattern)?;
+    let input = stream(alloc, b"IN")?;
+    let output = stream(alloc, b"OUT")?;
+    let rest = optional(alloc, b"REST")?;
+    let inputs = vec![in alloc; key, input]?;
+    kind(alloc, b"Group", inputs, vec![in alloc; output, rest]?)
+}
+
 // The row of a kind.
 fn spec(alloc: Global, kind: StdKind) -> Result<KindSpec, AllocError>
     ensures { IfOk result (λ spec. spec ≡ spec_of kind) }
@@ -471,6 +384,8 @@ fn spec(alloc: Global, kind: StdKind) -> Result<KindSpec, AllocError>
         StdKind::Rewrite => rewriting(alloc),
         StdKind::Glue => gluing(alloc),
         StdKind::Where => bounding(alloc),
+        StdKind::Group => grouping(alloc),
+        StdKind::Flat => passing(alloc, b"Flat"),
     }
 }
 

@@ -1,7 +1,7 @@
 -- What the standard kinds do, each in a line.
 use Rattle.std.specs.Prelude.{ℕ, List, codes}
 use Rattle.flow_catalogue.specs.declared.table.StdKind.{StdKind}
-use Rattle.flow_catalogue.specs.declared.table.StdKind.TheVariants.{ReadLines, WriteLines, Passthru, Words, Fill, Brackets, Copy, Concat, Collate, Discard, Bundle, Unbundle, Hoard, Count, LoadBalance, Select, Update, Tally, Unique, Head, Tail, Match, Replace, Sort, Find, Split, Rewrite, Glue, Where}
+use Rattle.flow_catalogue.specs.declared.table.StdKind.TheVariants.{ReadLines, WriteLines, Passthru, Words, Fill, Brackets, Copy, Concat, Collate, Discard, Bundle, Unbundle, Hoard, Count, LoadBalance, Select, Update, Tally, Unique, Head, Tail, Match, Replace, Sort, Find, Split, Rewrite, Glue, Where, Group, Flat}
 
 -- What a kind does.
 abbrev pub purpose_of : StdKind → List ℕ
@@ -34,6 +34,8 @@ purpose_of Split = codes "sends the texts between the matches of PATTERN, in ver
 purpose_of Rewrite = codes "replaces each match of PATTERN by what WITH makes of it, in version 3"
 purpose_of Glue = codes "makes one text of those between two brackets, with WITH between, in version 3"
 purpose_of Where = codes "accepts numbers for which IS holds, and rejects the rest, in version 3"
+purpose_of Group = codes "puts brackets round each row in which KEY finds the same, in version 3"
+purpose_of Flat = codes "takes brackets off, in version 3"
 
 -- What is told of a kind of the caller's own in the place of what it does, which its program alone knows.
 unfoldable pub own_purpose : List ℕ

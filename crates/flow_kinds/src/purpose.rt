@@ -44,6 +44,8 @@ pub fn purpose(kind: StdKind) -> &'static [u8]
         StdKind::Glue =>
             b"makes one text of those between two brackets, with WITH between, in version 3",
         StdKind::Where => b"accepts numbers for which IS holds, and rejects the rest, in version 3",
+        StdKind::Group => b"puts brackets round each row in which KEY finds the same, in version 3",
+        StdKind::Flat => b"takes brackets off, in version 3",
     }
 }
 

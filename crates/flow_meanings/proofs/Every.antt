@@ -25,6 +25,7 @@ use Rattle.flow_meanings.proofs.SortKind.{sort-facts}
 use Rattle.flow_meanings.proofs.FindKinds.{find-facts, split-facts, rewrite-facts}
 use Rattle.flow_meanings.proofs.GlueKind.{glue-facts}
 use Rattle.flow_meanings.proofs.WhereKind.{where-facts}
+use Rattle.flow_meanings.proofs.GroupKinds.{group-facts, flat-facts}
 
 -- The facts of each standard component.
 pub facts-of : (component : Std) → Facts component
@@ -57,6 +58,8 @@ facts-of (components.Split component) = split-facts component
 facts-of (components.Rewrite component) = rewrite-facts component
 facts-of (components.Glue component) = glue-facts component
 facts-of (components.Where state) = where-facts state
+facts-of (components.Group state) = group-facts state
+facts-of (components.Flat component) = flat-facts component
 
 -- a text of fields has one at least
 some-fields : (text : List ℕ) → 1 ≤ length (fields_of text)
@@ -73,6 +76,7 @@ first-first kinds.Hoard given file = tt
 first-first kinds.Match given file = tt
 first-first kinds.Replace given file = tt
 first-first kinds.Where given file = tt
+first-first kinds.Flat given file = tt
 first-first _ given file = refl
 
 -- the component of a process in its first state is so by its meaning too

@@ -12,6 +12,7 @@ pub mod SortKind
 pub mod FindKinds
 pub mod GlueKind
 pub mod WhereKind
+pub mod GroupKinds
 pub mod Every
 pub mod Contents
 pub mod Owns

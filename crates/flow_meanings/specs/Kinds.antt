@@ -50,6 +50,8 @@ use Rattle.flow_fold.specs.Made.{made_of}
 use Rattle.flow_fold.specs.Glue.{GluedState, glue_folding, glue_folded}
 use Rattle.flow_where.specs.Where.{WhereState}
 use Rattle.flow_where.specs.Meanings.{IsParted as IsWithinBound}
+use Rattle.flow_group.specs.Group.{GroupState, fresh_group}
+use Rattle.flow_group.specs.Meanings.{IsGrouped, flattened}
 use Rattle.flow_catalogue.specs.declared.standard.Std.{Std}
 use Rattle.flow_catalogue.specs.declared.standard.Std.TheVariants as components
 use Rattle.flow_meanings.specs.Meaning.{Meaning}
@@ -181,6 +183,14 @@ glue_meaning component = record { first = component ≡ beginning glue_folding c
 abbrev pub where_meaning : WhereState → Meaning
 where_meaning state = record { first = Unit {0}; loops = true; settled = true; makes = λ wrote x y. IsWithinBound state.bound state.rejects (x 0) (y 0) (y 1) }
 
+-- A Group sends its input with brackets round its rows, and to its second output, where that is connected, the Normal packets without a key.
+abbrev pub group_meaning : GroupState → Meaning
+group_meaning state = record { first = state ≡ fresh_group state.pattern state.rest; loops = true; settled = true; makes = λ wrote x y. IsGrouped state.pattern state.rest (x 0) (y 0) (y 1) }
+
+-- A Flat sends its input without the brackets.
+abbrev pub flat_meaning : Meaning
+flat_meaning = record { first = Unit {0}; loops = true; settled = true; makes = λ wrote x y. y 0 ≡ flattened (x 0) }
+
 -- What a standard component means.
 abbrev pub meaning_of : Std → Meaning
 meaning_of (components.ReadLines left) = read_lines_meaning left
@@ -212,3 +222,5 @@ meaning_of (components.Split component) = split_meaning component
 meaning_of (components.Rewrite component) = rewrite_meaning component
 meaning_of (components.Glue component) = glue_meaning component
 meaning_of (components.Where state) = where_meaning state
+meaning_of (components.Group state) = group_meaning state
+meaning_of (components.Flat component) = flat_meaning

@@ -1,0 +1,9 @@
+pub mod EndHeard
+pub mod FlatStream
+pub mod FlatEnd
+pub mod Ongoing
+pub mod GroupStream
+pub mod GroupRest
+pub mod GroupEnd
+pub mod RowLaws
+pub mod Undone
