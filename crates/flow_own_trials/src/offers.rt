@@ -94,10 +94,10 @@ fn the_own_kinds_stand_behind_the_standard_ones(rt: HostRuntime) -> Result<(), F
     let alloc = rt.alloc();
     let own = own(alloc)?;
     let table = table(alloc, &own)?;
-    assert_eq!(rt; table.len(), 31);
-    assert_eq!(rt; table[28].name.as_slice(), b"Where".as_slice());
-    assert_eq!(rt; table[29].name.as_slice(), b"Deal".as_slice());
-    assert_eq!(rt; table[30].outputs.len(), 2);
+    assert_eq!(rt; table.len(), 33);
+    assert_eq!(rt; table[30].name.as_slice(), b"Flat".as_slice());
+    assert_eq!(rt; table[31].name.as_slice(), b"Deal".as_slice());
+    assert_eq!(rt; table[32].outputs.len(), 2);
     Ok(())
 }
 

@@ -35,6 +35,8 @@ const NAMES: &[&[u8]] = &[
     b"Rewrite",
     b"Glue",
     b"Where",
+    b"Group",
+    b"Flat",
 ];
 
 fn check_kind(rt: &impl Abort, named: &[u8], name: &[u8]) {
