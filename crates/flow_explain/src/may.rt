@@ -118,6 +118,16 @@ impl<'a> Uses<'a> {
         Ok(None)
     }
 
+    /// Whether a port takes a pattern, of a subnet's the port to which that leads. Of a kind that isn't known it doesn't.
+    pub fn takes_pattern(
+        &self,
+        part: Option<&'a [u8]>,
+        mention: Mention<'a>,
+    ) -> Result<bool, AllocError> {
+        let class = self.class(part, mention)?;
+        Ok(matches!(class, Some(PortClass::Pattern)))
+    }
+
     /// Tells what the text may be that the line with this number gives, behind a colon; nothing, where that isn't known.
     pub fn put(&self, page: &mut String, number: u64) -> Result<(), AllocError> {
         let Some(found) = self.texts.iter().find(|found| found.number == number) else {

@@ -1,9 +1,10 @@
 //! Where a text that was given for a pattern stops being one, and which pattern is too large to be compiled.
 use crate::found::{Found, Walk};
+use crate::may::Uses;
 use crate::net::put_found;
 use crate::pieces::{Piece, behind, is_line_end, pieces};
-use crate::said::{Mention, Tag};
-use crate::shown::put_behind;
+use crate::said::Tag;
+use crate::shown::{put_behind, put_word};
 use crate::texts::given_by;
 use flow_limits::PROCESS_LIMIT;
 use flow_pattern::{is_pattern, is_too_large, slip_in, template_slip_in};
@@ -84,16 +85,22 @@ fn put_place(page: &mut String, rest: &[u8]) -> Result<(), AllocError> {
     put_behind(page, "at ", rest)
 }
 
-fn is_for_pattern(mention: Option<Mention<'_>>) -> bool {
-    match mention {
-        Some(mention) => mention.port == b"PATTERN".as_slice(),
-        None => false,
+// Whether a line gives its text to a port that takes patterns: by the port's name, or by its class, as the KEY of a Group.
+fn is_for_pattern<'a>(uses: &Uses<'a>, found: &Found<'a>) -> Result<bool, AllocError> {
+    match found.said.to {
+        Some(mention) if mention.port == b"PATTERN".as_slice() => Ok(true),
+        Some(mention) => uses.takes_pattern(found.part, mention),
+        None => Ok(false),
     }
 }
 
 // The text that a line gives for a pattern; none where it gives none.
-fn pattern_given(alloc: Global, found: &Found<'_>) -> Result<Option<Vec<u8>>, AllocError> {
-    if found.said.tag != Tag::Initial || !is_for_pattern(found.said.to) {
+fn pattern_given<'a>(
+    alloc: Global,
+    uses: &Uses<'a>,
+    found: &Found<'a>,
+) -> Result<Option<Vec<u8>>, AllocError> {
+    if found.said.tag != Tag::Initial || !is_for_pattern(uses, found)? {
         return Ok(None);
     }
     given_by(alloc, found)
@@ -102,11 +109,12 @@ fn pattern_given(alloc: Global, found: &Found<'_>) -> Result<Option<Vec<u8>>, Al
 /// Shows the first line that gives a pattern which is too large to be compiled, where there is one. Of the lines that give
 /// a pattern no more are tried than a network has processes: others may stand in subnets that nobody uses.
 pub fn put_large(alloc: Global, page: &mut String, net: &[u8]) -> Result<(), AllocError> {
+    let uses = Uses::of(alloc, net, &[])?;
     let mut walk = Walk::new();
     let mut left = PROCESS_LIMIT;
     for line in net.split(is_line_end) {
         let found = walk.next_line(alloc, line)?;
-        let Some(text) = pattern_given(alloc, &found)? else {
+        let Some(text) = pattern_given(alloc, &uses, &found)? else {
             continue;
         };
         if left == 0 {
@@ -122,7 +130,10 @@ pub fn put_large(alloc: Global, page: &mut String, net: &[u8]) -> Result<(), All
 
 fn put_large_line(page: &mut String, found: &Found<'_>) -> Result<(), AllocError> {
     put_found(page, found)?;
+    if let Some(mention) = found.said.to {
+        put_word(page, mention.port)?;
+    }
     page.push_str(
-        "PATTERN takes more than some 10 MiB when it is compiled, its repetitions written out.\n",
+        " takes more than some 10 MiB when it is compiled, its repetitions written out.\n",
     )
 }
