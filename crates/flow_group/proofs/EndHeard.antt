@@ -26,7 +26,8 @@ StaysOn Leaves (Fails component held cause) = Unit {0}
 module _ {K : Type 0} (rules : Rules K) (Leaves : K → Type 0)
     (one-input : (p : Poise K) (e : Happening) (m : Poise K) → Steps rules p e m → OneInput m)
     (on-or-end : (p : Poise K) (e : Happening) (m : Poise K) → OneInput p → (Leaves p.component → ⊥) → Steps rules p e m → IsEnd 0 e ⊎ StaysOn Leaves (Wishes m.component m.held m.wish)) where
-  heard : (es : List Happening) (p q : Poise K) → OneInput p → (Leaves p.component → ⊥) → Runs rules p es q → q.wish ≡ wishes.Deactivate → es ≢ [] → HeardEnd 0 es
+  heard : (es : List Happening) (p q : Poise K) → OneInput p → (Leaves p.component → ⊥) → Runs rules p es q → q.wish ≡ wishes.Deactivate → es ≢ []
+      → HeardEnd 0 es
   heard [] p q one on r d some = absurd (some refl)
   heard (e ∷ []) p q one on r d some = elim (on-or-end p e r.0 one on r.1) [
     | inl h ↦ inl h

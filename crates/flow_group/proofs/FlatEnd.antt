@@ -30,9 +30,11 @@ module _ {K : Type 0} where
   takes-on Open component held id = (tt, λ never. never)
   takes-on Close component held id = (tt, λ never. never)
 
-  on-or-end : (p : Poise K) (e : Happening) (m : Poise K) → OneInput p → (Never p.component → ⊥) → Steps flat_rules p e m → IsEnd 0 e ⊎ StaysOn Never (Wishes m.component m.held m.wish)
+  on-or-end : (p : Poise K) (e : Happening) (m : Poise K) → OneInput p → (Never p.component → ⊥) → Steps flat_rules p e m
+      → IsEnd 0 e ⊎ StaysOn Never (Wishes m.component m.held m.wish)
   on-or-end p Started m one on s = inr (subst (StaysOn Never) (sym s.comes_to) (tt, λ never. never))
-  on-or-end p (Received port t) m one on s = inr (subst (StaysOn Never) (sym s.comes_to) (takes-on (kind_at s.held.packets (id_of t)) p.component s.held (id_of t)))
+  on-or-end p (Received port t) m one on s =
+      inr (subst (StaysOn Never) (sym s.comes_to) (takes-on (kind_at s.held.packets (id_of t)) p.component s.held (id_of t)))
   on-or-end p (Ended port) m one on s = inl (omega (arith, one port s.grants.0))
   on-or-end p (Sent port t) m one on s = inr (subst (StaysOn Never) (sym s.comes_to) (tt, λ never. never))
   on-or-end p (Learned port level) m one on s = absurd s.is_ready

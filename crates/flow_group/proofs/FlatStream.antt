@@ -25,7 +25,8 @@ FromWish held (wishes.Level port) x y = Unit {0}
 FromWish held wishes.Deactivate x y = y ≡ flattened x
 
 -- a packet of this kind stays, or doesn't
-first : (kind : Kind) (packet : Tree) (x : List Tree) → kind_of packet ≡ kind → flattened (packet ∷ x) ≡ cond (is_plain kind) (packet ∷ flattened x) (flattened x)
+first : (kind : Kind) (packet : Tree) (x : List Tree) → kind_of packet ≡ kind
+    → flattened (packet ∷ x) ≡ cond (is_plain kind) (packet ∷ flattened x) (flattened x)
 first kind packet x k = ap (λ (q : Kind). cond (is_plain q) (packet ∷ flattened x) (flattened x)) k
 
 module _ {K : Type 0} where
@@ -34,7 +35,8 @@ module _ {K : Type 0} where
   FromOutcome (Fails component held cause) x y = ⊥
 
   -- a packet came
-  after-packet : (kind : Kind) (component : K) (held : Held) (t : Tree) (x y : List Tree) → kind_of (content t) ≡ kind → packet_at held.packets (id_of t) ≡ Some t
+  after-packet : (kind : Kind) (component : K) (held : Held) (t : Tree) (x y : List Tree) → kind_of (content t) ≡ kind
+      → packet_at held.packets (id_of t) ≡ Some t
       → FromOutcome (takes_off component held (id_of t) kind) x y → y ≡ flattened (content t ∷ x)
   after-packet Normal component held t x y k found f = f ∙ ap (λ o. contents_in o ++ flattened x) found ∙ sym (first Normal (content t) x k)
   after-packet Open component held t x y k found f = f ∙ sym (first Open (content t) x k)
@@ -44,10 +46,12 @@ module _ {K : Type 0} where
   allowed p e m s = stays-allowed flat_rules flat_lawful p e m s
 
   -- what holds of the outcome, once it holds of where it leads
-  later : (p : Poise K) (e : Happening) (m : Poise K) (x y : List Tree) (s : Steps flat_rules p e m) → FromWish m.held m.wish x y → FromOutcome (flat_next p.component s.held (answer_of e)) x y
+  later : (p : Poise K) (e : Happening) (m : Poise K) (x y : List Tree) (s : Steps flat_rules p e m) → FromWish m.held m.wish x y
+      → FromOutcome (flat_next p.component s.held (answer_of e)) x y
   later p e m x y s h = subst (λ (o : Outcome K). FromOutcome o x y) s.comes_to h
 
-  run : (es : List Happening) (p q : Poise K) → Runs flat_rules p es q → q.wish ≡ wishes.Deactivate → IsAllowed one_to_one uses_first p.held p.wish → FromWish p.held p.wish (got 0 es) (sent 0 es)
+  run : (es : List Happening) (p q : Poise K) → Runs flat_rules p es q → q.wish ≡ wishes.Deactivate → IsAllowed one_to_one uses_first p.held p.wish
+      → FromWish p.held p.wish (got 0 es) (sent 0 es)
   run [] p q r d a =
       let w : p.wish ≡ wishes.Deactivate = ap (λ (u : Poise K). u.wish) (sym r) ∙ d in
       rw w refl

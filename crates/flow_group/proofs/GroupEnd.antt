@@ -45,7 +45,8 @@ leaves-on : (connected : Bool) (state : GroupState) (held : Held) (id : ℕ) →
 leaves-on true state held id g = (tt, not-last state.place g)
 leaves-on false state held id g = (tt, not-last state.place g)
 
-keyed-on : (same : Bool) (state : GroupState) (held : Held) (id : ℕ) (key : List ℕ) → IsTaking state.place → StaysHere (cond same (Wishes state held (send_first id)) (begins state held id key state.row))
+keyed-on : (same : Bool) (state : GroupState) (held : Held) (id : ℕ) (key : List ℕ) → IsTaking state.place
+    → StaysHere (cond same (Wishes state held (send_first id)) (begins state held id key state.row))
 keyed-on true state held id key g = (tt, not-last state.place g)
 keyed-on false state held id key g = begins-on state.row state held id key
 
@@ -73,9 +74,11 @@ one-input p e m s port receives =
     let allowed : IsAllowed group_shape (group_uses p.component.rest) m.held m.wish = stays-allowed group_rules group_lawful p e m s in
     rw receives at allowed
 
-on-or-end : (p : Poise GroupState) (e : Happening) (m : Poise GroupState) → OneInput p → (Leaves p.component → ⊥) → Steps group_rules p e m → IsEnd 0 e ⊎ StaysHere (Wishes m.component m.held m.wish)
+on-or-end : (p : Poise GroupState) (e : Happening) (m : Poise GroupState) → OneInput p → (Leaves p.component → ⊥) → Steps group_rules p e m
+    → IsEnd 0 e ⊎ StaysHere (Wishes m.component m.held m.wish)
 on-or-end p Started m one on s = inr (subst StaysHere (sym s.comes_to) (tt, on))
-on-or-end p (Received port t) m one on s = inr (subst StaysHere (sym s.comes_to) (meets-on (kind_at s.held.packets (id_of t)) p.component s.held (id_of t) s.is_ready.0))
+on-or-end p (Received port t) m one on s =
+    inr (subst StaysHere (sym s.comes_to) (meets-on (kind_at s.held.packets (id_of t)) p.component s.held (id_of t) s.is_ready.0))
 on-or-end p (Ended port) m one on s = inl (omega (arith, one port s.grants.0))
 on-or-end p (Sent port t) m one on s = inr (subst StaysHere (sym s.comes_to) (goes-on p.component.place p.component s.held refl on))
 on-or-end p (Learned port level) m one on s = absurd s.is_ready

@@ -49,35 +49,45 @@ FromOutcome (Fails state held cause) x y = ⊥
 abbrev left_first : GroupState → Bool → Tree → List Tree → List Tree
 left_first state has packet x = if_connected state.rest (cond (not has) (packet ∷ lacking state.pattern x) (lacking state.pattern x))
 
-after-beginning : (row : Option (List ℕ)) (state : GroupState) (held : Held) (id : ℕ) (key : List ℕ) (x y : List Tree) → FromOutcome (begins state held id key row) x y → y ≡ left_of state x
+after-beginning : (row : Option (List ℕ)) (state : GroupState) (held : Held) (id : ℕ) (key : List ℕ) (x y : List Tree)
+    → FromOutcome (begins state held id key row) x y → y ≡ left_of state x
 after-beginning None state held id key x y f = f
 after-beginning (Some row) state held id key x y f = f
 
-after-key : (same : Bool) (state : GroupState) (held : Held) (id : ℕ) (key : List ℕ) (x y : List Tree) → FromOutcome (cond same (Wishes state held (send_first id)) (begins state held id key state.row)) x y → y ≡ left_of state x
+after-key : (same : Bool) (state : GroupState) (held : Held) (id : ℕ) (key : List ℕ) (x y : List Tree)
+    → FromOutcome (cond same (Wishes state held (send_first id)) (begins state held id key state.row)) x y → y ≡ left_of state x
 after-key true state held id key x y f = f
 after-key false state held id key x y f = after-beginning state.row state held id key x y f
 
-after-leaving : (connected : Bool) (state : GroupState) (held : Held) (t : Tree) (x y : List Tree) → state.rest ≡ connected → packet_at held.packets (id_of t) ≡ Some t → FromOutcome (leaves state held (id_of t) connected) x y
+after-leaving : (connected : Bool) (state : GroupState) (held : Held) (t : Tree) (x y : List Tree) → state.rest ≡ connected
+    → packet_at held.packets (id_of t) ≡ Some t → FromOutcome (leaves state held (id_of t) connected) x y
     → y ≡ if_connected connected (content t ∷ lacking state.pattern x)
 after-leaving true state held t x y c found f = f ∙ (λ i. contents_in (found i) ++ if_connected (c i) (lacking state.pattern x))
 after-leaving false state held t x y c found f = f ∙ ap (λ (b : Bool). if_connected b (lacking state.pattern x)) c
 
-after-taking : (key : Option (List ℕ)) (has : Bool) (state : GroupState) (held : Held) (t : Tree) (x y : List Tree) → is_some key ≡ has → packet_at held.packets (id_of t) ≡ Some t → FromOutcome (takes state held (id_of t) key) x y
+after-taking : (key : Option (List ℕ)) (has : Bool) (state : GroupState) (held : Held) (t : Tree) (x y : List Tree) → is_some key ≡ has
+    → packet_at held.packets (id_of t) ≡ Some t → FromOutcome (takes state held (id_of t) key) x y
     → y ≡ left_first state has (content t) x
-after-taking None has state held t x y e found f = after-leaving state.rest state held t x y refl found f ∙ ap (λ (b : Bool). left_first state b (content t) x) e
-after-taking (Some key) has state held t x y e found f = after-key (is_row state.row key) state held (id_of t) key x y f ∙ ap (λ (b : Bool). left_first state b (content t) x) e
+after-taking None has state held t x y e found f =
+    after-leaving state.rest state held t x y refl found f ∙ ap (λ (b : Bool). left_first state b (content t) x) e
+after-taking (Some key) has state held t x y e found f =
+    after-key (is_row state.row key) state held (id_of t) key x y f ∙ ap (λ (b : Bool). left_first state b (content t) x) e
 
-after-bracket : (row : Option (List ℕ)) (state : GroupState) (held : Held) (id : ℕ) (x y : List Tree) → FromOutcome (passes state held id row) x y → y ≡ left_of state x
+after-bracket : (row : Option (List ℕ)) (state : GroupState) (held : Held) (id : ℕ) (x y : List Tree) → FromOutcome (passes state held id row) x y
+    → y ≡ left_of state x
 after-bracket None state held id x y f = f
 after-bracket (Some row) state held id x y f = f
 
-after-packet : (kind : Kind) (state : GroupState) (held : Held) (t : Tree) (x y : List Tree) → packet_at held.packets (id_of t) ≡ Some t → FromOutcome (meets state held (id_of t) kind) x y
+after-packet : (kind : Kind) (state : GroupState) (held : Held) (t : Tree) (x y : List Tree) → packet_at held.packets (id_of t) ≡ Some t
+    → FromOutcome (meets state held (id_of t) kind) x y
     → y ≡ left_first state (has_place state.pattern kind (text_at held.packets (id_of t))) (content t) x
-after-packet Normal state held t x y found f = after-taking (key_of state.pattern (text_at held.packets (id_of t))) (has_place state.pattern Normal (text_at held.packets (id_of t))) state held t x y refl found f
+after-packet Normal state held t x y found f =
+    after-taking (key_of state.pattern (text_at held.packets (id_of t))) (has_place state.pattern Normal (text_at held.packets (id_of t))) state held t x y refl found f
 after-packet Open state held t x y found f = after-bracket state.row state held (id_of t) x y f
 after-packet Close state held t x y found f = after-bracket state.row state held (id_of t) x y f
 
-after-got : (state : GroupState) (held : Held) (t : Tree) (x y : List Tree) → kind_of (content t) ≡ kind_at held.packets (id_of t) → text_of (content t) ≡ text_at held.packets (id_of t) → packet_at held.packets (id_of t) ≡ Some t
+after-got : (state : GroupState) (held : Held) (t : Tree) (x y : List Tree) → kind_of (content t) ≡ kind_at held.packets (id_of t)
+    → text_of (content t) ≡ text_at held.packets (id_of t) → packet_at held.packets (id_of t) ≡ Some t
     → FromOutcome (meets state held (id_of t) (kind_at held.packets (id_of t))) x y → y ≡ left_of state (content t ∷ x)
 after-got state held t x y k e found f =
     after-packet (kind_at held.packets (id_of t)) state held t x y found f ∙ sym (λ i. left_first state (has_place state.pattern (k i) (e i)) (content t) x)
@@ -93,14 +103,16 @@ after-going (Passing id) state held x y f = f
 after-going Leaving state held x y f = f
 
 -- what holds of the outcome, once it holds of where it leads
-later : (p : Poise GroupState) (e : Happening) (m : Poise GroupState) (x y : List Tree) (s : Steps group_rules p e m) → FromWish m.component m.held m.wish x y → FromOutcome (group_next p.component s.held (answer_of e)) x y
+later : (p : Poise GroupState) (e : Happening) (m : Poise GroupState) (x y : List Tree) (s : Steps group_rules p e m) → FromWish m.component m.held m.wish x y
+    → FromOutcome (group_next p.component s.held (answer_of e)) x y
 later p e m x y s h = subst (λ (o : Outcome GroupState). FromOutcome o x y) s.comes_to h
 
 nothing-left : (connected : Bool) → [] ≡ if_connected connected []
 nothing-left true = refl
 nothing-left false = refl
 
-run : (es : List Happening) (p q : Poise GroupState) → Runs group_rules p es q → q.wish ≡ wishes.Deactivate → ReceivesFirst p.wish → FromWish p.component p.held p.wish (got 0 es) (sent 1 es)
+run : (es : List Happening) (p q : Poise GroupState) → Runs group_rules p es q → q.wish ≡ wishes.Deactivate → ReceivesFirst p.wish
+    → FromWish p.component p.held p.wish (got 0 es) (sent 1 es)
 run [] p q r d a =
     let w : p.wish ≡ wishes.Deactivate = ap (λ (u : Poise GroupState). u.wish) (sym r) ∙ d in
     rw w (nothing-left p.component.rest)
@@ -128,11 +140,14 @@ run (Sent port t ∷ es) p q r d a =
 run (Learned port level ∷ es) p q r d a = absurd r.1.is_ready
 
 -- Over a whole run it sends those there, where the output is connected, and else nothing.
-leaves-some : (pattern : Option (List ℕ)) (rest : Bool) (told : List Happening) → EndedRun group_rules (fresh_group pattern rest) told → sent 1 told ≡ if_connected rest (lacking pattern (got 0 told))
+leaves-some : (pattern : Option (List ℕ)) (rest : Bool) (told : List Happening) → EndedRun group_rules (fresh_group pattern rest) told
+    → sent 1 told ≡ if_connected rest (lacking pattern (got 0 told))
 leaves-some pattern rest told ended = run told (fresh (fresh_group pattern rest) ended.maker) ended.last ended.runs ended.idle tt
 
-pub leaves-lacking : (pattern : Option (List ℕ)) (rest : Bool) (told : List Happening) → EndedRun group_rules (fresh_group pattern rest) told → rest ≡ true → sent 1 told ≡ lacking pattern (got 0 told)
+pub leaves-lacking : (pattern : Option (List ℕ)) (rest : Bool) (told : List Happening) → EndedRun group_rules (fresh_group pattern rest) told → rest ≡ true
+    → sent 1 told ≡ lacking pattern (got 0 told)
 leaves-lacking pattern rest told ended is = leaves-some pattern rest told ended ∙ ap (λ (b : Bool). if_connected b (lacking pattern (got 0 told))) is
 
-pub leaves-none : (pattern : Option (List ℕ)) (rest : Bool) (told : List Happening) → EndedRun group_rules (fresh_group pattern rest) told → rest ≡ false → sent 1 told ≡ []
+pub leaves-none : (pattern : Option (List ℕ)) (rest : Bool) (told : List Happening) → EndedRun group_rules (fresh_group pattern rest) told → rest ≡ false
+    → sent 1 told ≡ []
 leaves-none pattern rest told ended is = leaves-some pattern rest told ended ∙ ap (λ (b : Bool). if_connected b (lacking pattern (got 0 told))) is

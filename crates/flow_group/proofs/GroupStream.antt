@@ -41,7 +41,8 @@ FromPlace state packets Leaving x y = state.row ≡ None → y ≡ grouped state
 -- With this wish, y is to be sent where x is to come.
 abbrev FromWish : GroupState → Held → Wish → List Tree → List Tree → Type 0
 FromWish state held (wishes.Receive port) x y = y ≡ behind state x
-FromWish state held (wishes.Send port id) x y = (y' : List Tree) × (y ≡ (if 0 == port.0 then held_content held.packets id else []) ++ y') × FromPlace state (without held.packets id) state.place x y'
+FromWish state held (wishes.Send port id) x y =
+    (y' : List Tree) × (y ≡ (if 0 == port.0 then held_content held.packets id else []) ++ y') × FromPlace state (without held.packets id) state.place x y'
 FromWish state held (wishes.Level port) x y = Unit {0}
 FromWish state held wishes.Deactivate x y = state.row ≡ None → y ≡ grouped state.pattern x
 
@@ -50,37 +51,43 @@ FromOutcome (Wishes state held wish) x y = FromWish state held wish x y
 FromOutcome (Fails state held cause) x y = ⊥
 
 -- a bracket that was made is found
-made-found : (place : GroupPlace) (held : Held) (kind : Kind) (text : List ℕ) → IsReadyOn held place → held_content (with_made held kind text).packets (next_id held) ≡ packet_of 0 kind text [] ∷ []
+made-found : (place : GroupPlace) (held : Held) (kind : Kind) (text : List ℕ) → IsReadyOn held place
+    → held_content (with_made held kind text).packets (next_id held) ≡ packet_of 0 kind text [] ∷ []
 made-found Taking held kind text r = let s = same_id (next_id held) in rw (r, s) refl
 made-found (Opening id) held kind text r = ap contents_in (HoldsOnly-made_at held id kind text r)
 made-found (Passing id) held kind text r = ap contents_in (HoldsOnly-made_at held id kind text r)
 made-found Leaving held kind text r = let s = same_id (next_id held) in rw (r, s) refl
 
 -- and once it has gone the hands are as before
-made-left : (place : GroupPlace) (held : Held) (kind : Kind) (text : List ℕ) → IsReadyOn held place → without (with_made held kind text).packets (next_id held) ≡ held.packets
+made-left : (place : GroupPlace) (held : Held) (kind : Kind) (text : List ℕ) → IsReadyOn held place
+    → without (with_made held kind text).packets (next_id held) ≡ held.packets
 made-left Taking held kind text r = made_gone held kind text r ∙ sym r
 made-left (Opening id) held kind text r = HoldsOnly-made held id kind text r ∙ sym r.holds
 made-left (Passing id) held kind text r = HoldsOnly-made held id kind text r ∙ sym r.holds
 made-left Leaving held kind text r = made_gone held kind text r ∙ sym r
 
 -- a bracket was made
-after-made : (state : GroupState) (held : Held) (kind : Kind) (text : List ℕ) (x y : List Tree) → IsReadyOn held state.place → FromOutcome (Wishes state (with_made held kind text) (send_first (next_id held))) x y
+after-made : (state : GroupState) (held : Held) (kind : Kind) (text : List ℕ) (x y : List Tree) → IsReadyOn held state.place
+    → FromOutcome (Wishes state (with_made held kind text) (send_first (next_id held))) x y
     → (y' : List Tree) × (y ≡ packet_of 0 kind text [] ∷ y') × FromPlace state held.packets state.place x y'
 after-made state held kind text x y r f =
     (f.0, f.1 ∙ ap (λ (u : List Tree). u ++ f.0) (made-found state.place held kind text r), subst (λ (ts : List Tree). FromPlace state ts state.place x f.0) (made-left state.place held kind text r) f.2)
 
 -- a row is opened
-after-opening : (state : GroupState) (held : Held) (id : ℕ) (x y : List Tree) → HoldsOnly held id → FromOutcome (opens state held id) x y → y ≡ opener (row_key state.row) ∷ (held_content held.packets id ++ behind state x)
+after-opening : (state : GroupState) (held : Held) (id : ℕ) (x y : List Tree) → HoldsOnly held id → FromOutcome (opens state held id) x y
+    → y ≡ opener (row_key state.row) ∷ (held_content held.packets id ++ behind state x)
 after-opening state held id x y h f =
     let m = after-made (record state { place = Passing id }) held Open (row_key state.row) x y h f in
     m.1 ∙ ap (λ (u : List Tree). opener (row_key state.row) ∷ u) m.2
 
 -- a row begins
-after-beginning : (row : Option (List ℕ)) (state : GroupState) (held : Held) (t : Tree) (key : List ℕ) (x y : List Tree) → is_row row key ≡ false → HoldsOnly held (id_of t) → packet_at held.packets (id_of t) ≡ Some t
+after-beginning : (row : Option (List ℕ)) (state : GroupState) (held : Held) (t : Tree) (key : List ℕ) (x y : List Tree) → is_row row key ≡ false
+    → HoldsOnly held (id_of t) → packet_at held.packets (id_of t) ≡ Some t
     → FromOutcome (begins state held (id_of t) key row) x y → y ≡ from_pieces row (joined key (content t) (pieces_of state.pattern x))
 after-beginning None state held t key x y other h found f =
     let pieces = pieces_of state.pattern x in
-    after-opening (record state { row = Some key }) held (id_of t) x y h f ∙ ap (λ (o : Option Tree). opener key ∷ (contents_in o ++ ongoing key pieces)) found ∙ sym (row-opens key (content t) pieces)
+    after-opening (record state { row = Some key }) held (id_of t) x y h f ∙ ap (λ (o : Option Tree). opener key ∷ (contents_in o ++ ongoing key pieces)) found
+    ∙ sym (row-opens key (content t) pieces)
 after-beginning (Some row) state held t key x y other h found f =
     let pieces = pieces_of state.pattern x in
     let m = after-made (record state { row = Some key; place = Opening (id_of t) }) held Close [] x y h f in
@@ -88,14 +95,16 @@ after-beginning (Some row) state held t key x y other h found f =
     m.1 ∙ ap (λ (u : List Tree). closer ∷ u) z ∙ sym (row-ends row key (content t) pieces other)
 
 -- a packet is passed on
-after-passing : (row : Option (List ℕ)) (state : GroupState) (held : Held) (t : Tree) (x y : List Tree) → state.row ≡ row → state.place ≡ Taking → packet_at held.packets (id_of t) ≡ Some t
+after-passing : (row : Option (List ℕ)) (state : GroupState) (held : Held) (t : Tree) (x y : List Tree) → state.row ≡ row → state.place ≡ Taking
+    → packet_at held.packets (id_of t) ≡ Some t
     → FromOutcome (Wishes state held (send_first (id_of t))) x y → y ≡ content t ∷ from_pieces row (pieces_of state.pattern x)
 after-passing row state held t x y e g found f =
     let z : f.0 ≡ behind state x = subst (λ (place : GroupPlace). FromPlace state (without held.packets (id_of t)) place x f.0) g f.2 in
     f.1 ∙ (λ i. contents_in (found i) ++ z i) ∙ ap (λ (r : Option (List ℕ)). content t ∷ from_pieces r (pieces_of state.pattern x)) e
 
 -- a packet with a key came
-after-key : (row : Option (List ℕ)) (same : Bool) (state : GroupState) (held : Held) (t : Tree) (key : List ℕ) (x y : List Tree) → state.row ≡ row → is_row row key ≡ same → state.place ≡ Taking → HoldsOnly held (id_of t)
+after-key : (row : Option (List ℕ)) (same : Bool) (state : GroupState) (held : Held) (t : Tree) (key : List ℕ) (x y : List Tree) → state.row ≡ row
+    → is_row row key ≡ same → state.place ≡ Taking → HoldsOnly held (id_of t)
     → packet_at held.packets (id_of t) ≡ Some t → FromOutcome (cond same (Wishes state held (send_first (id_of t))) (begins state held (id_of t) key row)) x y
     → y ≡ from_pieces row (joined key (content t) (pieces_of state.pattern x))
 after-key None true state held t key x y e is g h found f = absurd (cc)
@@ -104,19 +113,22 @@ after-key (Some row) true state held t key x y e is g h found f =
 after-key row false state held t key x y e is g h found f = after-beginning row state held t key x y is h found f
 
 -- a packet without a key came
-after-leaving : (connected : Bool) (state : GroupState) (held : Held) (id : ℕ) (x y : List Tree) → state.place ≡ Taking → FromOutcome (leaves state held id connected) x y → y ≡ behind state x
+after-leaving : (connected : Bool) (state : GroupState) (held : Held) (id : ℕ) (x y : List Tree) → state.place ≡ Taking
+    → FromOutcome (leaves state held id connected) x y → y ≡ behind state x
 after-leaving true state held id x y g f =
     let z : f.0 ≡ behind state x = subst (λ (place : GroupPlace). FromPlace state (without held.packets id) place x f.0) g f.2 in
     f.1 ∙ z
 after-leaving false state held id x y g f = f
 
-after-taking : (key : Option (List ℕ)) (state : GroupState) (held : Held) (t : Tree) (x y : List Tree) → state.place ≡ Taking → HoldsOnly held (id_of t) → packet_at held.packets (id_of t) ≡ Some t
+after-taking : (key : Option (List ℕ)) (state : GroupState) (held : Held) (t : Tree) (x y : List Tree) → state.place ≡ Taking → HoldsOnly held (id_of t)
+    → packet_at held.packets (id_of t) ≡ Some t
     → FromOutcome (takes state held (id_of t) key) x y → y ≡ from_pieces state.row (joined_by key (content t) (pieces_of state.pattern x))
 after-taking None state held t x y g h found f = after-leaving state.rest state held (id_of t) x y g f
 after-taking (Some key) state held t x y g h found f = after-key state.row (is_row state.row key) state held t key x y refl refl g h found f
 
 -- a bracket came
-after-bracket : (row : Option (List ℕ)) (state : GroupState) (held : Held) (t : Tree) (x y : List Tree) → state.row ≡ row → state.place ≡ Taking → HoldsOnly held (id_of t) → packet_at held.packets (id_of t) ≡ Some t
+after-bracket : (row : Option (List ℕ)) (state : GroupState) (held : Held) (t : Tree) (x y : List Tree) → state.row ≡ row → state.place ≡ Taking
+    → HoldsOnly held (id_of t) → packet_at held.packets (id_of t) ≡ Some t
     → FromOutcome (passes state held (id_of t) row) x y → y ≡ from_pieces row (Bracket (content t) ∷ pieces_of state.pattern x)
 after-bracket None state held t x y e g h found f = after-passing None state held t x y e g found f
 after-bracket (Some row) state held t x y e g h found f =
@@ -125,35 +137,42 @@ after-bracket (Some row) state held t x y e g h found f =
     m.1 ∙ ap (λ (u : List Tree). closer ∷ u) z
 
 -- a packet of this kind came
-after-packet : (kind : Kind) (state : GroupState) (held : Held) (t : Tree) (x y : List Tree) → kind_of (content t) ≡ kind → text_of (content t) ≡ text_at held.packets (id_of t) → state.place ≡ Taking → HoldsOnly held (id_of t)
-    → packet_at held.packets (id_of t) ≡ Some t → FromOutcome (meets state held (id_of t) kind) x y → y ≡ from_pieces state.row (with_first state.pattern kind (content t) (pieces_of state.pattern x))
+after-packet : (kind : Kind) (state : GroupState) (held : Held) (t : Tree) (x y : List Tree) → kind_of (content t) ≡ kind
+    → text_of (content t) ≡ text_at held.packets (id_of t) → state.place ≡ Taking → HoldsOnly held (id_of t)
+    → packet_at held.packets (id_of t) ≡ Some t → FromOutcome (meets state held (id_of t) kind) x y
+    → y ≡ from_pieces state.row (with_first state.pattern kind (content t) (pieces_of state.pattern x))
 after-packet Normal state held t x y k e g h found f =
     after-taking (key_of state.pattern (text_at held.packets (id_of t))) state held t x y g h found f
     ∙ sym (ap (λ (text : List ℕ). from_pieces state.row (joined_by (key_of state.pattern text) (content t) (pieces_of state.pattern x))) e)
 after-packet Open state held t x y k e g h found f = after-bracket state.row state held t x y refl g h found f
 after-packet Close state held t x y k e g h found f = after-bracket state.row state held t x y refl g h found f
 
-after-got : (state : GroupState) (held : Held) (t : Tree) (x y : List Tree) → kind_of (content t) ≡ kind_at held.packets (id_of t) → text_of (content t) ≡ text_at held.packets (id_of t) → state.place ≡ Taking
-    → HoldsOnly held (id_of t) → packet_at held.packets (id_of t) ≡ Some t → FromOutcome (meets state held (id_of t) (kind_at held.packets (id_of t))) x y → y ≡ behind state (content t ∷ x)
+after-got : (state : GroupState) (held : Held) (t : Tree) (x y : List Tree) → kind_of (content t) ≡ kind_at held.packets (id_of t)
+    → text_of (content t) ≡ text_at held.packets (id_of t) → state.place ≡ Taking
+    → HoldsOnly held (id_of t) → packet_at held.packets (id_of t) ≡ Some t → FromOutcome (meets state held (id_of t) (kind_at held.packets (id_of t))) x y
+    → y ≡ behind state (content t ∷ x)
 after-got state held t x y k e g h found f =
     after-packet (kind_at held.packets (id_of t)) state held t x y k e g h found f
     ∙ sym (ap (λ (kind : Kind). from_pieces state.row (with_first state.pattern kind (content t) (pieces_of state.pattern x))) k)
 
 -- the stream is over
-after-stream : (row : Option (List ℕ)) (state : GroupState) (held : Held) (y : List Tree) → state.row ≡ row → held.packets ≡ [] → FromOutcome (ends state held row) [] y → y ≡ from_pieces row []
+after-stream : (row : Option (List ℕ)) (state : GroupState) (held : Held) (y : List Tree) → state.row ≡ row → held.packets ≡ []
+    → FromOutcome (ends state held row) [] y → y ≡ from_pieces row []
 after-stream None state held y e none f = f e
 after-stream (Some row) state held y e none f =
     let m = after-made (record state { row = None; place = Leaving }) held Close [] [] y none f in
     m.1 ∙ ap (λ (u : List Tree). closer ∷ u) (m.2 refl)
 
 -- a packet was sent
-after-going : (place : GroupPlace) (state : GroupState) (held : Held) (x y : List Tree) → IsReadyOn held place → FromOutcome (goes_on state held place) x y → FromPlace state held.packets place x y
+after-going : (place : GroupPlace) (state : GroupState) (held : Held) (x y : List Tree) → IsReadyOn held place → FromOutcome (goes_on state held place) x y
+    → FromPlace state held.packets place x y
 after-going Taking state held x y r f = f
 after-going (Opening id) state held x y r f = after-opening state held id x y r f
 after-going (Passing id) state held x y r f = f.1 ∙ ap (λ (u : List Tree). held_content held.packets id ++ u) f.2
 after-going Leaving state held x y r f = f
 
-allowed : (p : Poise GroupState) (e : Happening) (m : Poise GroupState) → Steps group_rules p e m → IsAllowed group_shape (group_uses p.component.rest) m.held m.wish
+allowed : (p : Poise GroupState) (e : Happening) (m : Poise GroupState) → Steps group_rules p e m
+    → IsAllowed group_shape (group_uses p.component.rest) m.held m.wish
 allowed p e m s = stays-allowed group_rules group_lawful p e m s
 
 -- It receives at its one input alone.
@@ -173,10 +192,12 @@ pub receives-first : (p : Poise GroupState) (e : Happening) (m : Poise GroupStat
 receives-first p e m s = first-alone (group_uses p.component.rest) m.held m.wish (allowed p e m s)
 
 -- what holds of the outcome, once it holds of where it leads
-later : (p : Poise GroupState) (e : Happening) (m : Poise GroupState) (x y : List Tree) (s : Steps group_rules p e m) → FromWish m.component m.held m.wish x y → FromOutcome (group_next p.component s.held (answer_of e)) x y
+later : (p : Poise GroupState) (e : Happening) (m : Poise GroupState) (x y : List Tree) (s : Steps group_rules p e m) → FromWish m.component m.held m.wish x y
+    → FromOutcome (group_next p.component s.held (answer_of e)) x y
 later p e m x y s h = subst (λ (o : Outcome GroupState). FromOutcome o x y) s.comes_to h
 
-run : (es : List Happening) (p q : Poise GroupState) → Runs group_rules p es q → EndIsLast 0 es → q.wish ≡ wishes.Deactivate → ReceivesFirst p.wish → FromWish p.component p.held p.wish (got 0 es) (sent 0 es)
+run : (es : List Happening) (p q : Poise GroupState) → Runs group_rules p es q → EndIsLast 0 es → q.wish ≡ wishes.Deactivate → ReceivesFirst p.wish
+    → FromWish p.component p.held p.wish (got 0 es) (sent 0 es)
 run [] p q r l d a =
     let w : p.wish ≡ wishes.Deactivate = ap (λ (u : Poise GroupState). u.wish) (sym r) ∙ d in
     rw w (λ none. refl)
@@ -210,5 +231,6 @@ run (Sent port t ∷ es) p q r l d a =
 run (Learned port level ∷ es) p q r l d a = absurd r.1.is_ready
 
 -- Over a whole run it sends its stream with brackets round the rows.
-pub groups : (pattern : Option (List ℕ)) (rest : Bool) (told : List Happening) → EndedRun group_rules (fresh_group pattern rest) told → EndIsLast 0 told → sent 0 told ≡ grouped pattern (got 0 told)
+pub groups : (pattern : Option (List ℕ)) (rest : Bool) (told : List Happening) → EndedRun group_rules (fresh_group pattern rest) told → EndIsLast 0 told
+    → sent 0 told ≡ grouped pattern (got 0 told)
 groups pattern rest told ended l = run told (fresh (fresh_group pattern rest) ended.maker) ended.last ended.runs l ended.idle tt refl

@@ -42,7 +42,8 @@ row-opens key packet (Row other packets ∷ pieces) = opened-by (bytes_eq key ot
 row-opens key packet (Bracket bracket ∷ pieces) = refl
 
 -- behind a row with its own key
-own-row : (same : Bool) (key : List ℕ) (packets : List Tree) (pieces : List Piece) → bytes_eq key key ≡ same → same ≡ true → ongoing key (Row key packets ∷ pieces) ≡ packets ++ closer ∷ written pieces
+own-row : (same : Bool) (key : List ℕ) (packets : List Tree) (pieces : List Piece) → bytes_eq key key ≡ same → same ≡ true
+    → ongoing key (Row key packets ∷ pieces) ≡ packets ++ closer ∷ written pieces
 own-row same key packets pieces e t = ap (λ (b : Bool). cond b (packets ++ closer ∷ written pieces) (closer ∷ written (Row key packets ∷ pieces))) (e ∙ t)
 
 same-key : (key : List ℕ) → bytes_eq key key ≡ true
@@ -60,12 +61,14 @@ goes-own key packet (Row other packets ∷ pieces) = goes-by (bytes_eq key other
 goes-own key packet (Bracket bracket ∷ pieces) = own-row true key (packet ∷ []) (Bracket bracket ∷ pieces) (same-key key) refl
 
 -- A packet with the key of the open row goes on in it.
-pub row-goes : (row key : List ℕ) (packet : Tree) (pieces : List Piece) → bytes_eq row key ≡ true → ongoing row (joined key packet pieces) ≡ packet ∷ ongoing row pieces
+pub row-goes : (row key : List ℕ) (packet : Tree) (pieces : List Piece) → bytes_eq row key ≡ true
+    → ongoing row (joined key packet pieces) ≡ packet ∷ ongoing row pieces
 row-goes row key packet pieces e =
     let same : row ≡ key = (bytes_decides row key).0 e in
     subst (λ (k : List ℕ). ongoing row (joined k packet pieces) ≡ packet ∷ ongoing row pieces) same (goes-own row packet pieces)
 
-other-row : (row key : List ℕ) (packets : List Tree) (pieces : List Piece) → bytes_eq row key ≡ false → ongoing row (Row key packets ∷ pieces) ≡ closer ∷ written (Row key packets ∷ pieces)
+other-row : (row key : List ℕ) (packets : List Tree) (pieces : List Piece) → bytes_eq row key ≡ false
+    → ongoing row (Row key packets ∷ pieces) ≡ closer ∷ written (Row key packets ∷ pieces)
 other-row row key packets pieces e = ap (λ (b : Bool). cond b (packets ++ closer ∷ written pieces) (closer ∷ written (Row key packets ∷ pieces))) e
 
 ends-by : (same : Bool) (row key other : List ℕ) (packet : Tree) (packets : List Tree) (pieces : List Piece) → bytes_eq row key ≡ false
@@ -75,7 +78,8 @@ ends-by true row key other packet packets pieces e = other-row row key (packet �
 ends-by false row key other packet packets pieces e = other-row row key (packet ∷ []) (Row other packets ∷ pieces) e
 
 -- A packet with another key ends the open row.
-pub row-ends : (row key : List ℕ) (packet : Tree) (pieces : List Piece) → bytes_eq row key ≡ false → ongoing row (joined key packet pieces) ≡ closer ∷ written (joined key packet pieces)
+pub row-ends : (row key : List ℕ) (packet : Tree) (pieces : List Piece) → bytes_eq row key ≡ false
+    → ongoing row (joined key packet pieces) ≡ closer ∷ written (joined key packet pieces)
 row-ends row key packet [] e = other-row row key (packet ∷ []) [] e
 row-ends row key packet (Row other packets ∷ pieces) e = ends-by (bytes_eq key other) row key other packet packets pieces e
 row-ends row key packet (Bracket bracket ∷ pieces) e = other-row row key (packet ∷ []) (Bracket bracket ∷ pieces) e

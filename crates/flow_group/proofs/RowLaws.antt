@@ -36,11 +36,13 @@ module _ (pattern : Option (List ℕ)) where
   joined-packets key packet (Row other packets ∷ pieces) = joined-packets-by (bytes_eq key other) key other packet packets pieces
   joined-packets key packet (Bracket bracket ∷ pieces) = refl
 
-  keyed-packets : (key : Option (List ℕ)) (packet : Tree) (pieces : List Piece) → packets_in (joined_by key packet pieces) ≡ cond (is_some key) (packet ∷ packets_in pieces) (packets_in pieces)
+  keyed-packets : (key : Option (List ℕ)) (packet : Tree) (pieces : List Piece)
+      → packets_in (joined_by key packet pieces) ≡ cond (is_some key) (packet ∷ packets_in pieces) (packets_in pieces)
   keyed-packets None packet pieces = refl
   keyed-packets (Some key) packet pieces = joined-packets key packet pieces
 
-  first-packets : (kind : Kind) (packet : Tree) (pieces : List Piece) → packets_in (with_first pattern kind packet pieces) ≡ cond (has_place pattern kind (text_of packet)) (packet ∷ packets_in pieces) (packets_in pieces)
+  first-packets : (kind : Kind) (packet : Tree) (pieces : List Piece)
+      → packets_in (with_first pattern kind packet pieces) ≡ cond (has_place pattern kind (text_of packet)) (packet ∷ packets_in pieces) (packets_in pieces)
   first-packets Normal packet pieces = keyed-packets (key_of pattern (text_of packet)) packet pieces
   first-packets Open packet pieces = refl
   first-packets Close packet pieces = refl
@@ -48,35 +50,42 @@ module _ (pattern : Option (List ℕ)) where
   all-there : (stream : List Tree) → packets_in (pieces_of pattern stream) ≡ filter (stays pattern) stream
   all-there [] = refl
   all-there (packet ∷ stream) =
-      first-packets (kind_of packet) packet (pieces_of pattern stream) ∙ ap (λ (ts : List Tree). cond (stays pattern packet) (packet ∷ ts) ts) (all-there stream)
+      first-packets (kind_of packet) packet (pieces_of pattern stream)
+      ∙ ap (λ (ts : List Tree). cond (stays pattern packet) (packet ∷ ts) ts) (all-there stream)
 
   -- each piece is one
 
   one-packet : (key : List ℕ) (packet : Tree) → HasKey pattern key packet → IsPiece pattern (Row key (packet ∷ []))
   one-packet key packet has = ((λ none. cc), All-cons (HasKey pattern key) packet [] has (All-nil (HasKey pattern key)))
 
-  more-packets : (key other : List ℕ) (packet : Tree) (packets : List Tree) → key ≡ other → HasKey pattern key packet → IsPiece pattern (Row other packets) → IsPiece pattern (Row key (packet ∷ packets))
+  more-packets : (key other : List ℕ) (packet : Tree) (packets : List Tree) → key ≡ other → HasKey pattern key packet → IsPiece pattern (Row other packets)
+      → IsPiece pattern (Row key (packet ∷ packets))
   more-packets key other packet packets same has is =
       ((λ none. cc), All-cons (HasKey pattern key) packet packets has (subst (λ (k : List ℕ). All (HasKey pattern k) packets) (sym same) is.1))
 
-  joined-each-by : (same : Bool) (key other : List ℕ) (packet : Tree) (packets : List Tree) (pieces : List Piece) → bytes_eq key other ≡ same → HasKey pattern key packet → IsPiece pattern (Row other packets) → All (IsPiece pattern) pieces
+  joined-each-by : (same : Bool) (key other : List ℕ) (packet : Tree) (packets : List Tree) (pieces : List Piece) → bytes_eq key other ≡ same
+      → HasKey pattern key packet → IsPiece pattern (Row other packets) → All (IsPiece pattern) pieces
       → All (IsPiece pattern) (if same then Row key (packet ∷ packets) ∷ pieces else Row key (packet ∷ []) ∷ Row other packets ∷ pieces)
   joined-each-by true key other packet packets pieces e has is each =
       All-cons (IsPiece pattern) (Row key (packet ∷ packets)) pieces (more-packets key other packet packets ((bytes_decides key other).0 e) has is) each
   joined-each-by false key other packet packets pieces e has is each =
       All-cons (IsPiece pattern) (Row key (packet ∷ [])) (Row other packets ∷ pieces) (one-packet key packet has) (All-cons (IsPiece pattern) (Row other packets) pieces is each)
 
-  joined-each : (key : List ℕ) (packet : Tree) (pieces : List Piece) → HasKey pattern key packet → All (IsPiece pattern) pieces → All (IsPiece pattern) (joined key packet pieces)
+  joined-each : (key : List ℕ) (packet : Tree) (pieces : List Piece) → HasKey pattern key packet → All (IsPiece pattern) pieces
+      → All (IsPiece pattern) (joined key packet pieces)
   joined-each key packet [] has each = All-cons (IsPiece pattern) (Row key (packet ∷ [])) [] (one-packet key packet has) each
   joined-each key packet (Row other packets ∷ pieces) has each =
       joined-each-by (bytes_eq key other) key other packet packets pieces refl has (All-head (IsPiece pattern) (Row other packets) pieces each) (All-tail (IsPiece pattern) (Row other packets) pieces each)
-  joined-each key packet (Bracket bracket ∷ pieces) has each = All-cons (IsPiece pattern) (Row key (packet ∷ [])) (Bracket bracket ∷ pieces) (one-packet key packet has) each
+  joined-each key packet (Bracket bracket ∷ pieces) has each =
+      All-cons (IsPiece pattern) (Row key (packet ∷ [])) (Bracket bracket ∷ pieces) (one-packet key packet has) each
 
-  keyed-each : (key : Option (List ℕ)) (packet : Tree) (pieces : List Piece) → kind_of packet ≡ Normal → key_of pattern (text_of packet) ≡ key → All (IsPiece pattern) pieces → All (IsPiece pattern) (joined_by key packet pieces)
+  keyed-each : (key : Option (List ℕ)) (packet : Tree) (pieces : List Piece) → kind_of packet ≡ Normal → key_of pattern (text_of packet) ≡ key
+      → All (IsPiece pattern) pieces → All (IsPiece pattern) (joined_by key packet pieces)
   keyed-each None packet pieces k e each = each
   keyed-each (Some key) packet pieces k e each = joined-each key packet pieces (record { is_normal = k; keyed = e }) each
 
-  first-each : (kind : Kind) (packet : Tree) (pieces : List Piece) → kind_of packet ≡ kind → All (IsPiece pattern) pieces → All (IsPiece pattern) (with_first pattern kind packet pieces)
+  first-each : (kind : Kind) (packet : Tree) (pieces : List Piece) → kind_of packet ≡ kind → All (IsPiece pattern) pieces
+      → All (IsPiece pattern) (with_first pattern kind packet pieces)
   first-each Normal packet pieces k each = keyed-each (key_of pattern (text_of packet)) packet pieces k refl each
   first-each Open packet pieces k each = All-cons (IsPiece pattern) (Bracket packet) pieces (λ n. let bad : Open ≡ Normal = sym k ∙ n in cc) each
   first-each Close packet pieces k each = All-cons (IsPiece pattern) (Bracket packet) pieces (λ n. let bad : Close ≡ Normal = sym k ∙ n in cc) each
@@ -87,9 +96,11 @@ module _ (pattern : Option (List ℕ)) where
 
   -- rows with one key don't stand side by side
 
-  joined-apart-by : (same : Bool) (key other : List ℕ) (packet : Tree) (packets : List Tree) (pieces : List Piece) → bytes_eq key other ≡ same → AreApart (Row other packets ∷ pieces)
+  joined-apart-by : (same : Bool) (key other : List ℕ) (packet : Tree) (packets : List Tree) (pieces : List Piece) → bytes_eq key other ≡ same
+      → AreApart (Row other packets ∷ pieces)
       → AreApart (if same then Row key (packet ∷ packets) ∷ pieces else Row key (packet ∷ []) ∷ Row other packets ∷ pieces)
-  joined-apart-by true key other packet packets pieces e apart = (subst (λ (k : List ℕ). IsApart k pieces) (sym ((bytes_decides key other).0 e)) apart.0, apart.1)
+  joined-apart-by true key other packet packets pieces e apart =
+      (subst (λ (k : List ℕ). IsApart k pieces) (sym ((bytes_decides key other).0 e)) apart.0, apart.1)
   joined-apart-by false key other packet packets pieces e apart = (other-key key other e, apart)
 
   joined-apart : (key : List ℕ) (packet : Tree) (pieces : List Piece) → AreApart pieces → AreApart (joined key packet pieces)
@@ -116,12 +127,14 @@ module _ (pattern : Option (List ℕ)) where
   skipped-key None packet pieces e = refl
   skipped-key (Some key) packet pieces e = absurd (let bad : true ≡ false = e in cc)
 
-  skipped : (kind : Kind) (packet : Tree) (pieces : List Piece) → has_place pattern kind (text_of packet) ≡ false → with_first pattern kind packet pieces ≡ pieces
+  skipped : (kind : Kind) (packet : Tree) (pieces : List Piece) → has_place pattern kind (text_of packet) ≡ false
+      → with_first pattern kind packet pieces ≡ pieces
   skipped Normal packet pieces e = skipped-key (key_of pattern (text_of packet)) packet pieces e
   skipped Open packet pieces e = absurd (let bad : true ≡ false = e in cc)
   skipped Close packet pieces e = absurd (let bad : true ≡ false = e in cc)
 
-  filtered-by : (stay : Bool) (packet : Tree) (stream : List Tree) → stays pattern packet ≡ stay → pieces_of pattern (filter (stays pattern) stream) ≡ pieces_of pattern stream
+  filtered-by : (stay : Bool) (packet : Tree) (stream : List Tree) → stays pattern packet ≡ stay
+      → pieces_of pattern (filter (stays pattern) stream) ≡ pieces_of pattern stream
       → pieces_of pattern (cond stay (packet ∷ filter (stays pattern) stream) (filter (stays pattern) stream)) ≡ pieces_of pattern (packet ∷ stream)
   filtered-by true packet stream e rest = ap (with_first pattern (kind_of packet) packet) rest
   filtered-by false packet stream e rest = rest ∙ sym (skipped (kind_of packet) packet (pieces_of pattern stream) e)
@@ -137,7 +150,8 @@ module _ (pattern : Option (List ℕ)) where
   bracket-first Open packet pieces other = refl
   bracket-first Close packet pieces other = refl
 
-  key-first : (key : List ℕ) (packet : Tree) (pieces : List Piece) → HasKey pattern key packet → with_first pattern (kind_of packet) packet pieces ≡ joined key packet pieces
+  key-first : (key : List ℕ) (packet : Tree) (pieces : List Piece) → HasKey pattern key packet
+      → with_first pattern (kind_of packet) packet pieces ≡ joined key packet pieces
   key-first key packet pieces has =
       ap (λ (kind : Kind). with_first pattern kind packet pieces) has.is_normal ∙ ap (λ (o : Option (List ℕ)). joined_by o packet pieces) has.keyed
 
@@ -147,18 +161,23 @@ module _ (pattern : Option (List ℕ)) where
       ap (λ (b : Bool). if b then Row key (packet ∷ packets) ∷ pieces else Row key (packet ∷ []) ∷ Row other packets ∷ pieces) (compares-apart (bytes_eq key other) key other refl apart)
   begins-row key packet (Bracket bracket ∷ pieces) apart = refl
 
-  goes-on-row : (key : List ℕ) (packet : Tree) (packets : List Tree) (pieces : List Piece) → joined key packet (Row key packets ∷ pieces) ≡ Row key (packet ∷ packets) ∷ pieces
+  goes-on-row : (key : List ℕ) (packet : Tree) (packets : List Tree) (pieces : List Piece)
+      → joined key packet (Row key packets ∷ pieces) ≡ Row key (packet ∷ packets) ∷ pieces
   goes-on-row key packet packets pieces =
       ap (λ (b : Bool). if b then Row key (packet ∷ packets) ∷ pieces else Row key (packet ∷ []) ∷ Row key packets ∷ pieces) ((bytes_decides key key).1 refl)
 
-  row-first : (key : List ℕ) (packets rest : List Tree) (pieces : List Piece) → pieces_of pattern rest ≡ pieces → IsApart key pieces → packets ≢ [] → All (HasKey pattern key) packets
+  row-first : (key : List ℕ) (packets rest : List Tree) (pieces : List Piece) → pieces_of pattern rest ≡ pieces → IsApart key pieces → packets ≢ []
+      → All (HasKey pattern key) packets
       → pieces_of pattern (packets ++ rest) ≡ Row key packets ∷ pieces
   row-first key [] rest pieces e apart some has = absurd (some refl)
   row-first key (packet ∷ []) rest pieces e apart some has =
-      ap (with_first pattern (kind_of packet) packet) e ∙ key-first key packet pieces (All-head (HasKey pattern key) packet [] has) ∙ begins-row key packet pieces apart
+      ap (with_first pattern (kind_of packet) packet) e ∙ key-first key packet pieces (All-head (HasKey pattern key) packet [] has)
+      ∙ begins-row key packet pieces apart
   row-first key (packet ∷ next ∷ packets) rest pieces e apart some has =
       let later = row-first key (next ∷ packets) rest pieces e apart (λ none. cc) (All-tail (HasKey pattern key) packet (next ∷ packets) has) in
-      ap (with_first pattern (kind_of packet) packet) later ∙ key-first key packet (Row key (next ∷ packets) ∷ pieces) (All-head (HasKey pattern key) packet (next ∷ packets) has) ∙ goes-on-row key packet (next ∷ packets) pieces
+      ap (with_first pattern (kind_of packet) packet) later
+      ∙ key-first key packet (Row key (next ∷ packets) ∷ pieces) (All-head (HasKey pattern key) packet (next ∷ packets) has)
+      ∙ goes-on-row key packet (next ∷ packets) pieces
 
   of-packets : (pieces : List Piece) → All (IsPiece pattern) pieces → AreApart pieces → pieces_of pattern (packets_in pieces) ≡ pieces
   of-packets [] each apart = refl

@@ -26,16 +26,19 @@ going key (Bracket packet ∷ pieces) = refl
 abbrev plainly : Kind → Tree → List Tree → List Tree
 plainly kind packet x = cond (is_plain kind) (packet ∷ x) x
 
-joined-flat : (key : List ℕ) (packet : Tree) (pieces : List Piece) → kind_of packet ≡ Normal → flattened (written (joined key packet pieces)) ≡ packet ∷ flattened (written pieces)
+joined-flat : (key : List ℕ) (packet : Tree) (pieces : List Piece) → kind_of packet ≡ Normal
+    → flattened (written (joined key packet pieces)) ≡ packet ∷ flattened (written pieces)
 joined-flat key packet pieces k =
-    ap flattened (row-opens key packet pieces) ∙ ap (λ (kind : Kind). plainly kind packet (flattened (ongoing key pieces))) k ∙ ap (λ (x : List Tree). packet ∷ x) (going key pieces)
+    ap flattened (row-opens key packet pieces) ∙ ap (λ (kind : Kind). plainly kind packet (flattened (ongoing key pieces))) k
+    ∙ ap (λ (x : List Tree). packet ∷ x) (going key pieces)
 
 module _ (pattern : Option (List ℕ)) where
   abbrev kept : List Tree → List Tree
   kept x = filter (stays pattern) x
 
   -- by the packet's key
-  keyed : (key : Option (List ℕ)) (packet : Tree) (pieces : List Piece) (x : List Tree) → kind_of packet ≡ Normal → key_of pattern (text_of packet) ≡ key → flattened (written pieces) ≡ kept x
+  keyed : (key : Option (List ℕ)) (packet : Tree) (pieces : List Piece) (x : List Tree) → kind_of packet ≡ Normal → key_of pattern (text_of packet) ≡ key
+      → flattened (written pieces) ≡ kept x
       → flattened (written (joined_by key packet pieces)) ≡ kept (packet ∷ x)
   keyed key packet pieces x k e rest = by key ∙ sym (ap (λ (b : Bool). cond b (packet ∷ kept x) (kept x)) stay)
     where

@@ -23,7 +23,8 @@ module _ {K : Type 0} where
   receives old held component w e = ((w, omega arith), ((λ s. e), (λ t s. HoldsOnly-came held t e s), (λ text s. HoldsOnly-made_alone held Normal text e s)))
 
   dropped : (component : K) (held : Held) (id : ℕ) → HoldsOnly held id → IsLawful held (Wishes component (without_packet held id) receive_first)
-  dropped component held id h = receives held (without_packet held id) component (comes_dropped held id (HoldsOnly-root held id h)) (HoldsOnly-without held id h)
+  dropped component held id h =
+      receives held (without_packet held id) component (comes_dropped held id (HoldsOnly-root held id h)) (HoldsOnly-without held id h)
 
   came : (kind : Kind) (component : K) (held : Held) (id : ℕ) → HoldsOnly held id → IsLawful held (takes_off component held id kind)
   came Normal component held id h = ((comes_same held, (refl, HoldsOnly-root held id h)), λ s. HoldsOnly-without held id h)

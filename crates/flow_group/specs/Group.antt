@@ -1,5 +1,6 @@
--- The component that puts brackets round the rows of a stream: its state, and its rule. (A row is the packets with one key that stand one behind the other; the command uniq, told of streams with substreams. The rule
--- is this project's own.)
+-- The component that puts brackets round the rows of a stream: its state, and its rule. (A row is the packets with
+-- one key that stand one behind the other, as the command uniq has them, here of streams with substreams. The rule is
+-- this project's own.)
 use Rattle.std.specs.Prelude.{◌≡◌, ℕ, ◌==◌, Bool, true, false, List, [], Option, Some, None, if◌then◌else◌}
 use Rattle.std.specs.Str.{bytes_eq}
 use Rattle.flow_packet.specs.declared.packet.Kind.{Kind}

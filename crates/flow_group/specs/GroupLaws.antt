@@ -23,11 +23,15 @@ use Rattle.flow_group.specs.Group.{GroupState, row_key, is_row, opens, closes, b
 abbrev IsLawful : Bool → Held → Outcome GroupState → Type 0
 IsLawful connected held outcome = Obeys group_shape (group_uses connected) held outcome × StaysReady group_rules outcome
 
-receives : (connected : Bool) (old held : Held) (state : GroupState) → ComesBy old held → IsTaking state.place → held.packets ≡ [] → IsLawful connected old (Wishes state held receive_first)
-receives connected old held state w g e = ((w, omega arith), ((λ s. (g, e)), (λ t s. (g, HoldsOnly-came held t e s)), (λ text s. (g, HoldsOnly-made_alone held Normal text e s))))
+receives : (connected : Bool) (old held : Held) (state : GroupState) → ComesBy old held → IsTaking state.place → held.packets ≡ []
+    → IsLawful connected old (Wishes state held receive_first)
+receives connected old held state w g e =
+    ((w, omega arith), ((λ s. (g, e)), (λ t s. (g, HoldsOnly-came held t e s)), (λ text s. (g, HoldsOnly-made_alone held Normal text e s))))
 
-passed : (connected : Bool) (state : GroupState) (held : Held) (id : ℕ) → state.place ≡ Taking → HoldsOnly held id → IsLawful connected held (Wishes state held (send_first id))
-passed connected state held id g h = ((comes_same held, (refl, HoldsOnly-root held id h)), λ s. subst (IsReadyOn (without_packet held id)) (sym g) (HoldsOnly-without held id h))
+passed : (connected : Bool) (state : GroupState) (held : Held) (id : ℕ) → state.place ≡ Taking → HoldsOnly held id
+    → IsLawful connected held (Wishes state held (send_first id))
+passed connected state held id g h =
+    ((comes_same held, (refl, HoldsOnly-root held id h)), λ s. subst (IsReadyOn (without_packet held id)) (sym g) (HoldsOnly-without held id h))
 
 few : (place : GroupPlace) (held : Held) → IsReadyOn held place → length held.packets < HANDS_LIMIT
 few Taking held r = omega (arith, ap length r)
@@ -36,24 +40,28 @@ few (Passing id) held r = omega (arith, ap length r.holds)
 few Leaving held r = omega (arith, ap length r)
 
 -- once what was made has gone, the hands are as before
-stays : (place : GroupPlace) (held : Held) (kind : Kind) (text : List ℕ) → IsReadyOn held place → Sound (without_packet (with_made held kind text) (next_id held)) → IsReadyOn (without_packet (with_made held kind text) (next_id held)) place
+stays : (place : GroupPlace) (held : Held) (kind : Kind) (text : List ℕ) → IsReadyOn held place
+    → Sound (without_packet (with_made held kind text) (next_id held)) → IsReadyOn (without_packet (with_made held kind text) (next_id held)) place
 stays Taking held kind text r s = made_gone held kind text r
 stays (Opening id) held kind text r s = HoldsOnly-left held id kind text r s
 stays (Passing id) held kind text r s = HoldsOnly-left held id kind text r s
 stays Leaving held kind text r s = made_gone held kind text r
 
 -- a bracket is made and sent
-made : (connected : Bool) (state : GroupState) (held : Held) (kind : Kind) (text : List ℕ) → IsReadyOn held state.place → IsLawful connected held (Wishes state (with_made held kind text) (send_first (next_id held)))
+made : (connected : Bool) (state : GroupState) (held : Held) (kind : Kind) (text : List ℕ) → IsReadyOn held state.place
+    → IsLawful connected held (Wishes state (with_made held kind text) (send_first (next_id held)))
 made connected state held kind text r =
     ((comes_made held kind text (few state.place held r), (refl, IsAtRoot-made held kind text)), λ s. stays state.place held kind text r s)
 
 opened : (connected : Bool) (state : GroupState) (held : Held) (id : ℕ) → HoldsOnly held id → IsLawful connected held (opens state held id)
 opened connected state held id h = made connected (record state { place = Passing id }) held Open (row_key state.row) h
 
-closed : (connected : Bool) (state : GroupState) (held : Held) (row : Option (List ℕ)) (place : GroupPlace) → IsReadyOn held place → IsLawful connected held (closes state held row place)
+closed : (connected : Bool) (state : GroupState) (held : Held) (row : Option (List ℕ)) (place : GroupPlace) → IsReadyOn held place
+    → IsLawful connected held (closes state held row place)
 closed connected state held row place r = made connected (record state { row = row; place = place }) held Close [] r
 
-begun : (row : Option (List ℕ)) (connected : Bool) (state : GroupState) (held : Held) (id : ℕ) (key : List ℕ) → HoldsOnly held id → IsLawful connected held (begins state held id key row)
+begun : (row : Option (List ℕ)) (connected : Bool) (state : GroupState) (held : Held) (id : ℕ) (key : List ℕ) → HoldsOnly held id
+    → IsLawful connected held (begins state held id key row)
 begun None connected state held id key h = opened connected (record state { row = Some key }) held id h
 begun (Some row) connected state held id key h = closed connected state held (Some key) (Opening id) h
 
@@ -63,19 +71,25 @@ place-taking (Opening id) g = absurd g
 place-taking (Passing id) g = absurd g
 place-taking Leaving g = absurd g
 
-left : (connected : Bool) (state : GroupState) (held : Held) (id : ℕ) → IsTaking state.place → HoldsOnly held id → IsLawful connected held (leaves state held id connected)
-left true state held id g h = ((comes_same held, (refl, HoldsOnly-root held id h)), λ s. subst (IsReadyOn (without_packet held id)) (sym (place-taking state.place g)) (HoldsOnly-without held id h))
-left false state held id g h = receives false held (without_packet held id) state (comes_dropped held id (HoldsOnly-root held id h)) g (HoldsOnly-without held id h)
+left : (connected : Bool) (state : GroupState) (held : Held) (id : ℕ) → IsTaking state.place → HoldsOnly held id
+    → IsLawful connected held (leaves state held id connected)
+left true state held id g h =
+    ((comes_same held, (refl, HoldsOnly-root held id h)), λ s. subst (IsReadyOn (without_packet held id)) (sym (place-taking state.place g)) (HoldsOnly-without held id h))
+left false state held id g h =
+    receives false held (without_packet held id) state (comes_dropped held id (HoldsOnly-root held id h)) g (HoldsOnly-without held id h)
 
-keyed : (same : Bool) (state : GroupState) (held : Held) (id : ℕ) (key : List ℕ) → IsTaking state.place → HoldsOnly held id → IsLawful state.rest held (cond same (Wishes state held (send_first id)) (begins state held id key state.row))
+keyed : (same : Bool) (state : GroupState) (held : Held) (id : ℕ) (key : List ℕ) → IsTaking state.place → HoldsOnly held id
+    → IsLawful state.rest held (cond same (Wishes state held (send_first id)) (begins state held id key state.row))
 keyed true state held id key g h = passed state.rest state held id (place-taking state.place g) h
 keyed false state held id key g h = begun state.row state.rest state held id key h
 
-taken : (key : Option (List ℕ)) (state : GroupState) (held : Held) (id : ℕ) → IsTaking state.place → HoldsOnly held id → IsLawful state.rest held (takes state held id key)
+taken : (key : Option (List ℕ)) (state : GroupState) (held : Held) (id : ℕ) → IsTaking state.place → HoldsOnly held id
+    → IsLawful state.rest held (takes state held id key)
 taken None state held id g h = left state.rest state held id g h
 taken (Some key) state held id g h = keyed (is_row state.row key) state held id key g h
 
-passed-on : (row : Option (List ℕ)) (state : GroupState) (held : Held) (id : ℕ) → IsTaking state.place → HoldsOnly held id → IsLawful state.rest held (passes state held id row)
+passed-on : (row : Option (List ℕ)) (state : GroupState) (held : Held) (id : ℕ) → IsTaking state.place → HoldsOnly held id
+    → IsLawful state.rest held (passes state held id row)
 passed-on None state held id g h = passed state.rest state held id (place-taking state.place g) h
 passed-on (Some row) state held id g h = closed state.rest state held None (Passing id) h
 
@@ -88,7 +102,8 @@ ended : (row : Option (List ℕ)) (state : GroupState) (held : Held) → IsTakin
 ended None state held g e = ((comes_same held, tt), λ s. (g, e))
 ended (Some row) state held g e = closed state.rest state held None Leaving e
 
-went-on : (place : GroupPlace) (state : GroupState) (held : Held) → state.place ≡ place → IsReadyOn held place → IsLawful state.rest held (goes_on state held place)
+went-on : (place : GroupPlace) (state : GroupState) (held : Held) → state.place ≡ place → IsReadyOn held place
+    → IsLawful state.rest held (goes_on state held place)
 went-on Taking state held e r = receives state.rest held held state (comes_same held) (subst IsTaking (sym e) tt) r
 went-on (Opening id) state held e r = opened state.rest state held id r
 went-on (Passing id) state held e r = passed state.rest (record state { place = Taking }) held id refl r
@@ -102,7 +117,8 @@ lawful state held answers.Sent r = went-on state.place state held refl r
 lawful state held (answers.Level n) r = absurd r
 
 -- No work changes whether the second output is connected, nor the pattern.
-begun-rest : (row : Option (List ℕ)) (state : GroupState) (held : Held) (id : ℕ) (key : List ℕ) → (component_after (begins state held id key row)).rest ≡ state.rest
+begun-rest : (row : Option (List ℕ)) (state : GroupState) (held : Held) (id : ℕ) (key : List ℕ)
+    → (component_after (begins state held id key row)).rest ≡ state.rest
 begun-rest None state held id key = refl
 begun-rest (Some row) state held id key = refl
 
@@ -110,7 +126,8 @@ left-rest : (connected : Bool) (state : GroupState) (held : Held) (id : ℕ) →
 left-rest true state held id = refl
 left-rest false state held id = refl
 
-keyed-rest : (same : Bool) (state : GroupState) (held : Held) (id : ℕ) (key : List ℕ) → (component_after (cond same (Wishes state held (send_first id)) (begins state held id key state.row))).rest ≡ state.rest
+keyed-rest : (same : Bool) (state : GroupState) (held : Held) (id : ℕ) (key : List ℕ)
+    → (component_after (cond same (Wishes state held (send_first id)) (begins state held id key state.row))).rest ≡ state.rest
 keyed-rest true state held id key = refl
 keyed-rest false state held id key = begun-rest state.row state held id key
 

@@ -19,7 +19,8 @@ FlatMeaning K = (component : K) (told : List Happening) → EndedRun flat_rules 
 abbrev pub FlatHears : Type 0 → Type 0
 FlatHears K = (component : K) (told : List Happening) → EndedRun flat_rules component told → told ≢ [] → HeardEnd 0 told
 
--- What a Group makes of a stream: the stream with brackets round its rows to its first output, and the Normal packets without a key to its second one, if that is connected.
+-- What a Group makes of a stream: the stream with brackets round its rows to its first output, and the Normal packets
+-- without a key to its second one, if that is connected.
 pub record IsGrouped (pattern : Option (List ℕ)) (rest : Bool) (stream out left : List Tree) : Type 0 where
   pub groups : out ≡ grouped pattern stream
   pub leaves_others : rest ≡ true → left ≡ filter (λ packet. not (stays pattern packet)) stream
@@ -27,11 +28,14 @@ pub record IsGrouped (pattern : Option (List ℕ)) (rest : Bool) (stream out lef
 
 -- A Group whose input ends for good sends what is made of its stream so.
 abbrev pub GroupMeaning : Type 0
-GroupMeaning = (pattern : Option (List ℕ)) (rest : Bool) (told : List Happening) → EndedRun group_rules (fresh_group pattern rest) told → EndIsLast 0 told → IsGrouped pattern rest (got 0 told) (sent 0 told) (sent 1 told)
+GroupMeaning =
+    (pattern : Option (List ℕ)) (rest : Bool) (told : List Happening) → EndedRun group_rules (fresh_group pattern rest) told → EndIsLast 0 told
+    → IsGrouped pattern rest (got 0 told) (sent 0 told) (sent 1 told)
 
 -- A Group that was started and has come to its end has heard the end of its input.
 abbrev pub GroupHears : Type 0
-GroupHears = (pattern : Option (List ℕ)) (rest : Bool) (told : List Happening) → EndedRun group_rules (fresh_group pattern rest) told → told ≢ [] → HeardEnd 0 told
+GroupHears =
+    (pattern : Option (List ℕ)) (rest : Bool) (told : List Happening) → EndedRun group_rules (fresh_group pattern rest) told → told ≢ [] → HeardEnd 0 told
 
 -- A stream has pieces, and no others than these.
 pub record TheOnlyPieces : Type 0 where

@@ -53,7 +53,8 @@ AreApart [] = Unit {0}
 AreApart (Row key packets ∷ pieces) = IsApart key pieces × AreApart pieces
 AreApart (Bracket packet ∷ pieces) = AreApart pieces
 
--- These are the pieces of the stream: one behind the other they are its packets, but for the Normal ones without a key; each is a row or a bracket; and a row is as long as it can be.
+-- These are the pieces of the stream: one behind the other they are its packets, but for the Normal ones without a
+-- key; each is a row or a bracket; and a row is as long as it can be.
 pub record ArePieces (pattern : Option (List ℕ)) (stream : List Tree) (pieces : List Piece) : Type 0 where
   pub all : flat_map packets_of pieces ≡ filter (stays pattern) stream
   pub each : All (IsPiece pattern) pieces
@@ -62,7 +63,8 @@ pub record ArePieces (pattern : Option (List ℕ)) (stream : List Tree) (pieces 
 -- A packet with this key, and the pieces behind it: it stands in the row that comes first, where that has the same key, and else is a row.
 abbrev pub joined : List ℕ → Tree → List Piece → List Piece
 joined key packet [] = Row key (packet ∷ []) ∷ []
-joined key packet (Row other packets ∷ pieces) = if bytes_eq key other then Row key (packet ∷ packets) ∷ pieces else Row key (packet ∷ []) ∷ Row other packets ∷ pieces
+joined key packet (Row other packets ∷ pieces) =
+    if bytes_eq key other then Row key (packet ∷ packets) ∷ pieces else Row key (packet ∷ []) ∷ Row other packets ∷ pieces
 joined key packet (Bracket bracket ∷ pieces) = Row key (packet ∷ []) ∷ Bracket bracket ∷ pieces
 
 -- A Normal packet with this key, if it has one, and the pieces behind it.

@@ -66,7 +66,11 @@ fn make_bracket(hands: &mut Hands, kind: Kind, text: &[u8]) -> Result<PacketId, 
     requires short { length text.now ≤ TEXT_LIMIT }
     requires room { hands.old.made < 4294967295 }
     ensures id { IfOk result (λ id. id ≡ new_id hands.old) }
-    ensures made { OnOk result (hands.new ≡ record hands.old { made = hands.old.made + 1; packets = hands.old.packets ++ packet_of (new_id hands.old) kind text.now [] ∷ []; spare = hands.new.spare }) }
+    ensures made { OnOk result (hands.new ≡ record hands.old {
+      made = hands.old.made + 1;
+      packets = hands.old.packets ++ packet_of (new_id hands.old) kind text.now [] ∷ [];
+      spare = hands.new.spare;
+    }) }
     ensures err { OnErr result (hands.new ≡ hands.old) }
 {
     match hands.make(kind, text) {
@@ -135,7 +139,8 @@ impl Group {
         requires few { length hands.old.packets < HANDS_LIMIT }
         requires short { IfSome row (λ key. length key.items ≤ TEXT_LIMIT) }
         requires room { hands.old.made < 4294967295 }
-        ensures { Resumes (λ state held _ outcome. outcome ≡ closes state held (option_map (λ key. key.items) row) place) self.old hands.old Answer.Sent result self.new hands.new }
+        ensures { Resumes (λ state held _ outcome. outcome ≡ closes state held (option_map (λ key. key.items) row) place)
+            self.old hands.old Answer.Sent result self.new hands.new }
     {
         let Ok(bracket) = make_bracket(hands, Kind::Close, &[]) else {
             return Err(Stop::NoMemory);
@@ -150,7 +155,8 @@ impl Group {
         requires alone { HoldsOnly (held_of hands.old) packet }
         requires short { length key.items ≤ TEXT_LIMIT }
         requires room { hands.old.made < 4294967295 }
-        ensures { Resumes (λ state held _ outcome. outcome ≡ begins state held packet key.items state.row) self.old hands.old Answer.Sent result self.new hands.new }
+        ensures { Resumes (λ state held _ outcome. outcome ≡ begins state held packet key.items state.row)
+            self.old hands.old Answer.Sent result self.new hands.new }
     {
         if self.row.is_some() {
             return self.close_row(hands, Some(key), GroupPlace::Opening(packet));
@@ -166,7 +172,8 @@ impl Group {
     // A packet without a key came.
     fn leave(&mut self, hands: &mut Hands, packet: PacketId) -> Wish
         requires alone { HoldsOnly (held_of hands.old) packet }
-        ensures { Resumes (λ state held _ outcome. outcome ≡ leaves state held packet state.rest) self.old hands.old Answer.Sent (Ok result) self.new hands.new }
+        ensures { Resumes (λ state held _ outcome. outcome ≡ leaves state held packet state.rest)
+            self.old hands.old Answer.Sent (Ok result) self.new hands.new }
     {
         if self.rest {
             return Wish::Send(REST, packet);

@@ -18,7 +18,8 @@ use Rattle.flow_key.specs.Key.{key_group, found_key}
 use Rattle.flow_key.specs.Template.{first_group, key_template}
 
 -- A dollar and a one call the first group, where there is one.
-calls-first : (names : List (Option (List ℕ))) → first_part names first_group ≡ option_map (λ (n : ℕ). (Group n, 2)) (if nat_lt 1 (length names) then Some 1 else None)
+calls-first : (names : List (Option (List ℕ)))
+    → first_part names first_group ≡ option_map (λ (n : ℕ). (Group n, 2)) (if nat_lt 1 (length names) then Some 1 else None)
 unfolding name_at group_called number_in
 calls-first names = refl
 
@@ -49,7 +50,8 @@ template-has pattern is = ap (λ (b : Bool). if b then first_group else whole_ma
 
 -- and else the one for the whole match is.
 pub template-lacks : (pattern : List ℕ) → (IsTemplate pattern first_group → ⊥) → key_template pattern ≡ whole_match
-template-lacks pattern is_none = ap (λ (b : Bool). if b then first_group else whole_match) (not-chosen (nat_lt 1 (length (group_names pattern))) pattern refl is_none)
+template-lacks pattern is_none =
+    ap (λ (b : Bool). if b then first_group else whole_match) (not-chosen (nat_lt 1 (length (group_names pattern))) pattern refl is_none)
 
 writes-first : (pattern text : List ℕ) (match : Match) → filled (record { pattern = pattern; with = first_group }) text match ≡ group_bytes text match 1
 unfolding written_after name_at group_called number_in
@@ -59,12 +61,14 @@ writes-whole : (pattern text : List ℕ) (match : Match) → filled (record { pa
 unfolding written_after name_at group_called number_in
 writes-whole pattern text match = append-nil _
 
-writes-by : (has : Bool) (pattern text : List ℕ) (match : Match) → filled (record { pattern = pattern; with = if has then first_group else whole_match }) text match ≡ group_bytes text match (if has then 1 else 0)
+writes-by : (has : Bool) (pattern text : List ℕ) (match : Match)
+    → filled (record { pattern = pattern; with = if has then first_group else whole_match }) text match ≡ group_bytes text match (if has then 1 else 0)
 writes-by true pattern text match = writes-first pattern text match
 writes-by false pattern text match = writes-whole pattern text match
 
 -- The template for the key writes what the group for the key holds.
-writes-key : (pattern text : List ℕ) (match : Match) → filled (record { pattern = pattern; with = key_template pattern }) text match ≡ group_bytes text match (key_group pattern)
+writes-key : (pattern text : List ℕ) (match : Match)
+    → filled (record { pattern = pattern; with = key_template pattern }) text match ≡ group_bytes text match (key_group pattern)
 writes-key pattern text match = writes-by (nat_lt 1 (length (group_names pattern))) pattern text match
 
 short : (text : List ℕ) (span : Option (ℕ × ℕ)) → length (bytes_of text span) ≤ length text
@@ -85,13 +89,15 @@ module _ (by : Replacement) (text : List ℕ) (is : by.with ≡ key_template by.
   writes : (match : Match) → filled by text match ≡ group_bytes text match (key_group by.pattern)
   writes match = ap (λ (with : List ℕ). filled (record { pattern = by.pattern; with = with }) text match) is ∙ writes-key by.pattern text match
 
-  found-by : (found : Option Match) → next_match false (expression by.pattern) text 0 ≡ found → option_map (λ match. group_bytes text match (key_group by.pattern)) found ≡ found_key by.pattern text
+  found-by : (found : Option Match) → next_match false (expression by.pattern) text 0 ≡ found
+      → option_map (λ match. group_bytes text match (key_group by.pattern)) found ≡ found_key by.pattern text
   found-by found e = ap (option_map (λ match. group_bytes text match (key_group by.pattern))) (sym e ∙ first-match by.pattern text)
 
   pub found-none : next_match false (expression by.pattern) text 0 ≡ None → None ≡ found_key by.pattern text
   found-none next = found-by None next
 
-  pub found-new : (most : ℕ) (new : Vec ℕ Global) (end : ℕ) → IsNextFilled by text 0 most (Some (told.New new, end)) → Some new.items ≡ found_key by.pattern text
+  pub found-new : (most : ℕ) (new : Vec ℕ Global) (end : ℕ) → IsNextFilled by text 0 most (Some (told.New new, end))
+      → Some new.items ≡ found_key by.pattern text
   found-new most new end next = ap Some (next.2.0.0 ∙ writes next.0) ∙ found-by (Some next.0) next.1
 
   pub never-long : (most count end : ℕ) → length text ≤ most → IsNextFilled by text 0 most (Some (told.TooLong count, end)) → ⊥

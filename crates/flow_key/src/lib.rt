@@ -3,5 +3,7 @@
 #![tactic(auto)]
 
 mod key;
+#[cfg(test)]
+mod tests;
 
 pub use key::Key;
