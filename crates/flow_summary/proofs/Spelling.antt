@@ -15,8 +15,12 @@ pub record IsReadUpTo (names : SummaryNames) (text : List ℕ) (parts : List Par
 abbrev pub ReadUpTo : SummaryNames → List ℕ → ℕ → Type 0
 ReadUpTo names text place = (parts : List Part) × IsReadUpTo names text parts place
 
+-- Before the first part none is read.
+pub none_read : (names : SummaryNames) (text : List ℕ) → IsReadUpTo names text [] 0
+none_read names text = record { spelled = λ more spells. spells; left = λ all spells. (all, spells) }
+
 pub read_begins : (names : SummaryNames) (text : List ℕ) → ReadUpTo names text 0
-read_begins names text = ([], record { spelled = λ more spells. spells; left = λ all spells. (all, spells) })
+read_begins names text = ([], none_read names text)
 
 module _ (names : SummaryNames) (text : List ℕ) (parts : List Part) (place : ℕ) (before : IsReadUpTo names text parts place) where
   -- Before the end the rest is no empty text.
@@ -34,15 +38,15 @@ module _ (names : SummaryNames) (text : List ℕ) (parts : List Part) (place : �
         (more, subst (λ (t : List ℕ). Spells names t more) (ap (λ (m : ℕ). drop m (drop place text)) same ∙ behind) spells.2)
 
     -- One part more is read.
+    pub read_part : place < length text → IsReadUpTo names text (parts ++ part ∷ []) (place + n)
+    read_part inside = record {
+      spelled = λ more spells.
+          subst (Spells names text) (sym (append_assoc parts (part ∷ []) more)) (before.spelled (part ∷ more) (n, first, subst (λ (t : List ℕ). Spells names t more) (sym behind) spells));
+      left = λ all spells. let rest = before.left all spells in rest-spells inside rest.0 rest.1;
+    }
+
     pub read_more : place < length text → ReadUpTo names text (place + n)
-    read_more inside = (
-      parts ++ part ∷ [],
-      record {
-        spelled = λ more spells.
-            subst (Spells names text) (sym (append_assoc parts (part ∷ []) more)) (before.spelled (part ∷ more) (n, first, subst (λ (t : List ℕ). Spells names t more) (sym behind) spells));
-        left = λ all spells. let rest = before.left all spells in rest-spells inside rest.0 rest.1;
-      },
-    )
+    read_more inside = (parts ++ part ∷ [], read_part inside)
 
   -- Nothing is read here: then the text is no summary.
   none-spelled : first_part names (drop place text) ≡ None → place < length text → (more : List Part) → Spells names (drop place text) more → ⊥

@@ -1,6 +1,6 @@
 -- Summaries: texts that are filled in with what the texts of a stretch come to. (This project's own. A name goes as far as a group's does in
 -- a template.)
-use Rattle.std.specs.Prelude.{◌≡◌, ℕ, ◌+◌, ◌==◌, ◌&&◌, ◌||◌, Bool, List, [], ◌∷◌, length, drop, find, slice_index, take_while, Option, Some, None, option_map, if◌then◌else◌, bytes_eq, codes}
+use Rattle.std.specs.Prelude.{◌≡◌, ℕ, zero, suc, ◌+◌, ◌-◌, ◌==◌, ◌&&◌, ◌||◌, Bool, List, [], ◌∷◌, length, drop, find, slice_index, take_while, Option, Some, None, option_map, if◌then◌else◌, bytes_eq, codes}
 use Rattle.std.specs.Char.{is_ascii_alphanumeric}
 use Rattle.flow_summary.specs.declared.name.SummaryName.{SummaryName}
 use Rattle.flow_summary.specs.declared.name.SummaryName.TheVariants.{Sum, Count, Least, Most, Key, Text, Left, Right}
@@ -62,3 +62,18 @@ Spells names text (part ∷ parts) = (n : ℕ) × (first_part names text ≡ Som
 -- A text is a summary with these names where it spells parts: each dollar in it is one of two, or stands before one of the names.
 abbrev pub IsSummary : SummaryNames → List ℕ → Type 0
 IsSummary names text = (parts : List Part) × Spells names text parts
+
+-- A part that so many bytes spell, and then what the rest spells behind these; nothing where there is no part.
+abbrev pub part_then : Option (Part × ℕ) → (ℕ → List Part) → List Part
+part_then None more = []
+part_then (Some found) more = found.0 ∷ more found.1
+
+-- The parts that a text spells behind so many of its bytes.
+abbrev pub parts_behind : SummaryNames → ℕ → List ℕ → List Part
+parts_behind names passed [] = []
+parts_behind names (suc passed) (byte ∷ rest) = parts_behind names passed rest
+parts_behind names zero (byte ∷ rest) = part_then (first_part names (byte ∷ rest)) (λ n. parts_behind names (n - 1) rest)
+
+-- The parts that a text spells, as far as it spells any.
+abbrev pub parts_in : SummaryNames → List ℕ → List Part
+parts_in names text = parts_behind names 0 text

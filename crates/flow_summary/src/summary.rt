@@ -15,7 +15,7 @@ pub enum Part {
 }
 
 // What stands behind so many bytes.
-fn behind(text: &[u8], count: usize) -> &[u8]
+pub(crate) fn behind(text: &[u8], count: usize) -> &[u8]
     requires { count ≤ length text.now }
     ensures { result.now ≡ drop count text.now }
 {
@@ -71,7 +71,7 @@ fn dollar_part(names: SummaryNames, rest: &[u8]) -> Option<(Part, usize)>
 }
 
 // The part with which a text begins, and how many bytes spell it.
-fn first_part(names: SummaryNames, text: &[u8]) -> Option<(Part, usize)>
+pub(crate) fn first_part(names: SummaryNames, text: &[u8]) -> Option<(Part, usize)>
     requires some { 0 < length text.now }
     ensures part { result ≡ first_part names text.now }
     ensures within { IfSome result (λ found. (0 < found.1) × (found.1 ≤ length text.now)) }
