@@ -1,0 +1,4 @@
+pub mod Drafting
+pub mod Writing
+pub mod ReckonerEnd
+pub mod ReckonerStream
