@@ -234,7 +234,7 @@ module _ {K S : Type 0} (reckoning : Reckoning K S) (is : IsReckoning reckoning)
       let o : Owed component x f.0 f.1 = at-taking component.place component (without_packet held (id_of t)) x f.0 f.1 g f.4 in
       let more : left_by true kind (u ∷ x) ≡ u ∷ left_by true kind x = ap (λ (b : Bool). if b then u ∷ filter (is_left reckoning kind) x else filter (is_left reckoning kind) x) (text-left kind u false k c) in
       let left : z ≡ left_by (reckoning.rest kind) kind (u ∷ x) =
-          f.3 ∙ (λ i. contents_in (found i) ++ (o.left ∙ ap (λ (b : Bool). left_by b kind x) r) i) ∙ sym more ∙ sym (ap (λ (b : Bool). left_by b kind (u ∷ x)) r) in
+      f.3 ∙ (λ i. contents_in (found i) ++ (o.left ∙ ap (λ (b : Bool). left_by b kind x) r) i) ∙ sym more ∙ sym (ap (λ (b : Bool). left_by b kind (u ∷ x)) r) in
       with-text false verdict kind component.state component.state component.round u x y f.0 z k c refl (λ cut e. f.2 ∙ e) left (λ packets taken. taken) o.later_taken o.made o.first_taken
   after-left false component held t x y z k c r found g f =
       let u = content t in
@@ -329,7 +329,7 @@ module _ {K S : Type 0} (reckoning : Reckoning K S) (is : IsReckoning reckoning)
       let f = later p (Sent port t) r.0 (got 0 es) (sent 0 es) (sent 1 es) r.1 (run es r.0 q (one-input reckoning is p (Sent port t) r.0 r.1) r.2 l d) in
       let o : FromPlace p.component r.1.held p.component.place (got 0 es) (sent 0 es) (sent 1 es) = after-going p.component.place p.component r.1.held (got 0 es) (sent 0 es) (sent 1 es) f in
       let k : FromPlace p.component (without_packet p.held (id_of t)) p.component.place (got 0 es) (sent 0 es) (sent 1 es) =
-          subst (λ (h : Held). FromPlace p.component h p.component.place (got 0 es) (sent 0 es) (sent 1 es)) r.1.grants.2 o in
+      subst (λ (h : Held). FromPlace p.component h p.component.place (got 0 es) (sent 0 es) (sent 1 es)) r.1.grants.2 o in
       let found : contents_in (packet_at p.held.packets (id_of t)) ≡ content t ∷ [] = ap contents_in r.1.grants.1 in
       rw r.1.grants.0 (
         sent 0 es,

@@ -106,7 +106,7 @@ come_to first numbers = record { count = counted (length (first ∷ numbers)); s
 figures-more : (first : Decimal) (numbers : List Decimal) (number : Decimal) → figures_of ((first ∷ numbers) ++ number ∷ []) ≡ Some (with_number (come_to first numbers) number)
 figures-more first numbers number =
     let c : counted (length (first ∷ (numbers ++ number ∷ []))) ≡ counted (counted (length (first ∷ numbers)) + 1) =
-        ap counted (length-append (first ∷ numbers) (number ∷ [])) ∙ count-more (length (first ∷ numbers)) in
+    ap counted (length-append (first ∷ numbers) (number ∷ [])) ∙ count-more (length (first ∷ numbers)) in
     λ i. Some (record { count = c i; sum = sym (total-more (first ∷ numbers) number) i; least = least-more first numbers number i; most = most-more first numbers number i })
 
 -- Where a number is added, what comes of it is what all come to.

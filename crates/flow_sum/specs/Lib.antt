@@ -6,6 +6,7 @@ pub mod Made
 pub mod Telling
 pub mod Figures
 pub mod FigureLaws
+pub mod Laws
 pub mod Found
 pub mod Summary
 pub mod Sum

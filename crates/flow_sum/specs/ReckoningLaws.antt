@@ -54,9 +54,10 @@ module _ {K S : Type 0} (reckoning : Reckoning K S) (is : IsReckoning reckoning)
   taken rest (Keeps state) component held id own g h = receives rest held (without_packet held id) (record component { state = state }) (comes_dropped held id (HoldsOnly-root held id h)) g (HoldsOnly-without held id h)
   taken rest (Passes state) component held id own g h = passed rest (record component { state = state }) held id g h
   taken rest (Becomes state text) component held id own g h =
-      let e = HoldsOnly-without held id h in
-      ((comes_replaced held id Normal text (HoldsOnly-root held id h) (omega (arith, ap length e)), (refl, IsAtRoot-made (without_packet held id) Normal text)),
-      λ s. on-taking component.place (without_packet (with_made (without_packet held id) Normal text) (next_id held)) g (made_gone (without_packet held id) Normal text e))
+      let e = HoldsOnly-without held id h in (
+        (comes_replaced held id Normal text (HoldsOnly-root held id h) (omega (arith, ap length e)), (refl, IsAtRoot-made (without_packet held id) Normal text)),
+        λ s. on-taking component.place (without_packet (with_made (without_packet held id) Normal text) (next_id held)) g (made_gone (without_packet held id) Normal text e),
+      )
   taken rest (Refuses cause) component held id own g h = ((comes_same held, own cause refl), tt)
 
   came : (rest counts : Bool) (verdict : Verdict S) (component : Reckoned K S) (held : Held) (id : ℕ) → ((cause : Fail) → verdict ≡ Refuses cause → IsOwnCause reckoner_shape cause) → IsTaking component.place → HoldsOnly held id

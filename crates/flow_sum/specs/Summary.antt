@@ -39,3 +39,7 @@ parts_text stands_for parts = flat_map (part_text stands_for) parts
 -- What a summary with these parts says of what the numbers came to, with this key and this text.
 abbrev pub summary_text : List Part → Figures → List ℕ → List ℕ → List ℕ
 summary_text parts figures key text = parts_text (name_text figures key text) parts
+
+-- The summary that says the sum alone.
+abbrev pub sum_alone : List Part
+sum_alone = Name Sum ∷ []

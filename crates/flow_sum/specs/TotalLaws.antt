@@ -78,7 +78,7 @@ module _ (own : Totalling) (key : List ℕ) where
       let later = totals_behind own key (earlier ++ packet ∷ []) packets in
       let same : figures_of (all (earlier ++ packet ∷ [])) ≡ Some figures = ap figures_of n ∙ added_figures (all earlier) number figures e in
       become (nat_lt TEXT_LIMIT (length text)) packet packets (figures_of (all earlier)) figures text later taken (λ more.
-          ap (λ (s : Option Figures). sent_from total_reckoning own key packets s) (sym same) ∙ sends (subst (λ (s : Option Figures). IsTaken total_reckoning own key packets s) (sym same) more))
+      ap (λ (s : Option Figures). sent_from total_reckoning own key packets s) (sym same) ∙ sends (subst (λ (s : Option Figures). IsTaken total_reckoning own key packets s) (sym same) more))
       ∙ sym (ap (λ (f : Option Figures). told (text_of packet) f ++ later) same)
 
   one-more : (found : Option Decimal) (packet : Tree) (packets earlier : List Tree) → all (earlier ++ packet ∷ []) ≡ all earlier ++ cons_option found [] → Sends packets (earlier ++ packet ∷ [])

@@ -7,6 +7,7 @@
 
 mod draft;
 mod figures;
+mod laws;
 mod meanings;
 mod number;
 mod reckoner;
@@ -17,6 +18,7 @@ mod total;
 
 pub use draft::Filled;
 pub use figures::Figures;
+pub use laws::{the_least_is_least, the_most_is_most, the_sum_alone_is_spelled};
 pub use meanings::{
     reckoner_comes_to_one_outcome, reckoner_hears_the_end, reckoner_keeps_its_meaning,
     sum_keeps_its_meaning, total_keeps_its_meaning,

@@ -3,7 +3,7 @@
 ghost use Rattle.std.specs.Prelude.{◌≡◌, ◌++◌, ℕ, List, IfOk, OnOk};
 ghost use Rattle.flow_summary.specs.Summaries.{IsSummary, parts_in};
 ghost use Rattle.flow_sum.specs.Drafts.{IsDraft, IsFilled};
-ghost use Rattle.flow_sum.specs.Summary.{stretch_names, text_names, name_text, part_text, parts_text, summary_text};
+ghost use Rattle.flow_sum.specs.Summary.{stretch_names, text_names, name_text, part_text, parts_text, summary_text, sum_alone};
 
 use crate::draft::{Draft, Filled};
 use crate::figures::Figures;
@@ -117,6 +117,15 @@ impl Summary {
         ensures { IfOk result (λ summary. summary ≡ parts_in names text.now) }
     {
         let parts = parts_of(alloc, names, text)?;
+        Ok(Summary { alloc, parts })
+    }
+
+    /// The summary `$sum`.
+    pub fn of_sum(alloc: Global) -> Result<Summary, AllocError>
+        ensures { IfOk result (λ summary. summary ≡ sum_alone) }
+    {
+        let mut parts = Vec::new(alloc);
+        parts.push(Part::Name(SummaryName::Sum))?;
         Ok(Summary { alloc, parts })
     }
 
