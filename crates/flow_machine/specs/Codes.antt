@@ -75,11 +75,12 @@ fail_numbers (fails.TextLimit n) = (2, (n, (0, 0)))
 fail_numbers fails.HandsLimit = (3, (0, (0, 0)))
 fail_numbers fails.TreeDepth = (4, (0, (0, 0)))
 fail_numbers (fails.BracketIn p) = (5, (p.0, (0, 0)))
-fail_numbers (fails.Own (owns.Own n)) = (6, (0, (n, 0)))
-fail_numbers (fails.Own (owns.Packet n)) = (6, (1, (n, 0)))
-fail_numbers (fails.Own (owns.Port n)) = (6, (2, (n, 0)))
-fail_numbers (fails.Own owns.TapeLimit) = (6, (3, (0, 0)))
-fail_numbers (fails.Own owns.Differs) = (6, (4, (0, 0)))
+fail_numbers fails.SumLimit = (6, (0, (0, 0)))
+fail_numbers (fails.Own (owns.Own n)) = (7, (0, (n, 0)))
+fail_numbers (fails.Own (owns.Packet n)) = (7, (1, (n, 0)))
+fail_numbers (fails.Own (owns.Port n)) = (7, (2, (n, 0)))
+fail_numbers (fails.Own owns.TapeLimit) = (7, (3, (0, 0)))
+fail_numbers (fails.Own owns.Differs) = (7, (4, (0, 0)))
 
 abbrev own_from : ℕ → ℕ → OwnFail
 own_from zero n = owns.Own n
@@ -95,7 +96,8 @@ fail_from (suc (suc zero)) n m = fails.TextLimit n
 fail_from (suc (suc (suc zero))) n m = fails.HandsLimit
 fail_from (suc (suc (suc (suc zero)))) n m = fails.TreeDepth
 fail_from (suc (suc (suc (suc (suc zero))))) n m = fails.BracketIn (port n)
-fail_from (suc (suc (suc (suc (suc (suc k)))))) n m = fails.Own (own_from n m)
+fail_from (suc (suc (suc (suc (suc (suc zero)))))) n m = fails.SumLimit
+fail_from (suc (suc (suc (suc (suc (suc (suc k))))))) n m = fails.Own (own_from n m)
 
 fail-back : (f : Fail) → fail_from (fail_numbers f).0 (fail_numbers f).1.0 (fail_numbers f).1.1.0 ≡ f
 fail-back (fails.Unnested p) = refl
@@ -104,6 +106,7 @@ fail-back (fails.TextLimit n) = refl
 fail-back fails.HandsLimit = refl
 fail-back fails.TreeDepth = refl
 fail-back (fails.BracketIn p) = refl
+fail-back fails.SumLimit = refl
 fail-back (fails.Own (owns.Own n)) = refl
 fail-back (fails.Own (owns.Packet n)) = refl
 fail-back (fails.Own (owns.Port n)) = refl

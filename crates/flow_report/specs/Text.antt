@@ -15,7 +15,7 @@ use Rattle.flow_report.specs.declared.report.Wait.{Wait}
 use Rattle.flow_report.specs.declared.report.Wait.TheVariants.{Empty, Full, Dormant}
 use Rattle.flow_report.specs.declared.report.Blocked.{Blocked}
 use Rattle.flow_report.specs.declared.report.Cause.{Cause}
-use Rattle.flow_report.specs.declared.report.Cause.TheVariants.{Unnested, TurnLimit, TextLimit, HandsLimit, TreeDepth, BracketIn, Own as OwnCause}
+use Rattle.flow_report.specs.declared.report.Cause.TheVariants.{Unnested, TurnLimit, TextLimit, HandsLimit, TreeDepth, BracketIn, SumLimit, Own as OwnCause}
 use Rattle.flow_component.specs.declared.OwnFail.{OwnFail}
 use Rattle.flow_component.specs.declared.OwnFail.TheVariants as owns
 use Rattle.flow_report.specs.declared.report.Failure.{Failure}
@@ -76,6 +76,7 @@ cause_text (TextLimit length) = codes "text limit " ++ decimal length
 cause_text HandsLimit = codes "hands limit"
 cause_text TreeDepth = codes "tree depth"
 cause_text (BracketIn port) = codes "bracket in " ++ port
+cause_text SumLimit = codes "sum limit"
 cause_text (OwnCause own) = own_text own
 
 -- The name of process p among these.

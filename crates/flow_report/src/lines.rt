@@ -186,6 +186,7 @@ fn put_cause(text: &mut Vec<u8>, cause: &Cause) -> Result<(), AllocError>
         Cause::HandsLimit => text.extend_from_slice(b"hands limit"),
         Cause::TreeDepth => text.extend_from_slice(b"tree depth"),
         Cause::BracketIn(port) => put_two(text, b"bracket in ", port.as_slice()),
+        Cause::SumLimit => text.extend_from_slice(b"sum limit"),
         Cause::Own(own) => put_own(text, own),
     }
 }

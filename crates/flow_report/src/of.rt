@@ -173,6 +173,7 @@ fn cause_of(alloc: Global, plan: &Plan, process: u32, fail: Fail) -> Result<Caus
         Fail::HandsLimit => Ok(Cause::HandsLimit),
         Fail::TreeDepth => Ok(Cause::TreeDepth),
         Fail::BracketIn(port) => Ok(Cause::BracketIn(input_text(alloc, plan, process, port)?)),
+        Fail::SumLimit => Ok(Cause::SumLimit),
         Fail::Own(own) => Ok(Cause::Own(own)),
     }
 }

@@ -86,6 +86,7 @@ pub enum Cause {
     HandsLimit,
     TreeDepth,
     BracketIn(Text),
+    SumLimit,
     /// A component of the caller's own failed.
     Own(OwnFail),
 }

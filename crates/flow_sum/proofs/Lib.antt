@@ -1,0 +1,5 @@
+pub mod Drafting
+pub mod Writing
+pub mod Extremes
+pub mod ReckonerEnd
+pub mod ReckonerStream

@@ -1,0 +1,15 @@
+pub mod Round
+pub mod Drafts
+pub mod Reckoning
+pub mod ReckoningLaws
+pub mod Made
+pub mod Telling
+pub mod Figures
+pub mod FigureLaws
+pub mod Laws
+pub mod Found
+pub mod Summary
+pub mod Sum
+pub mod SumLaws
+pub mod Total
+pub mod TotalLaws

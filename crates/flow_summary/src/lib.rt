@@ -1,0 +1,12 @@
+//! Summaries: texts that are filled in with what the texts of a stretch come to, as `$count of $key`. Which names a text
+//! may have behind a dollar is told by the kind that is given it. The contracts are those of `slip_in`, `is_summary` and
+//! `parts_of`.
+#![tactic(auto)]
+
+mod name;
+mod parts;
+mod summary;
+
+pub use name::{SummaryName, SummaryNames};
+pub use parts::parts_of;
+pub use summary::{Part, is_summary, slip_in};
