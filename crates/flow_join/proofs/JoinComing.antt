@@ -1,36 +1,24 @@
 -- What a Join sends from a wish to receive on.
-use Rattle.std.proofs.Common.{◌≡◌, ◌≢◌, ℕ, ◌+◌, ◌<◌, ◌≤◌, Bool, true, false, List, [], ◌∷◌, ◌++◌, length, drop, refl, sym, ap, ◌∙◌, subst, arith, Option, Some, None}
+use Rattle.std.proofs.Common.{◌≡◌, ℕ, Bool, true, false, List, [], ◌∷◌, ◌++◌, drop, refl, sym, ap, ◌∙◌, subst, Option, Some, None}
 use Rattle.std.specs.List.{AllByRecursion}
-use Rattle.std.specs.Str.{bytes_eq}
 use Rattle.std.specs.Ordering.{is_lt}
-use Rattle.std.specs.declared.cmp.Ordering.{Ordering}
-use Rattle.std.specs.declared.cmp.Ordering.TheVariants.{Less, Equal, Greater}
-use Rattle.flow_packet.specs.declared.packet.Kind.{Kind}
-use Rattle.flow_packet.specs.declared.packet.Kind.TheVariants.{Normal, Open, Close}
-use Rattle.flow_packet.specs.Tree.{Tree, content, id_of, kind_of, text_of}
-use Rattle.flow_packet.specs.Hands.{packet_at, without, kind_at, kind_in, text_at, text_in, IsAtRoot}
-use Rattle.flow_packet.specs.Held.{Held, Sound, without_packet}
-use Rattle.flow_component.specs.declared.Wish.{Wish}
+use Rattle.std.specs.declared.cmp.Ordering.TheVariants.{Less}
+use Rattle.flow_packet.specs.Tree.{Tree, content}
+use Rattle.flow_packet.specs.Hands.{packet_at, without}
+use Rattle.flow_packet.specs.Held.{Held, without_packet}
 use Rattle.flow_component.specs.declared.Wish.TheVariants as wishes
-use Rattle.flow_component.specs.declared.Answer.TheVariants as answers
-use Rattle.flow_component.specs.Laws.{Outcome, Wishes}
-use Rattle.flow_component.specs.Happenings.{Happening, Started, Received, Ended, Sent, Learned}
-use Rattle.flow_component.specs.Runs.{Poise, got, sent, HeardEnd, Wakes, starts, text_packet}
-use Rattle.flow_component.proofs.Streams.{Comes-packets, content-text, content-kind, contents_in}
-use Rattle.flow_component.proofs.Several.{packet_at-last, without-last}
-use Rattle.flow_component.proofs.Ends.{heard-now, heard-later}
-use Rattle.flow_component.proofs.Wished.{port_of}
+use Rattle.flow_component.specs.Laws.{Wishes}
+use Rattle.flow_component.specs.Happenings.{Happening, Received, Ended, Sent}
+use Rattle.flow_component.specs.Runs.{Poise, got, Wakes, text_packet}
 use Rattle.flow_join.specs.declared.side.Side.{Side}
-use Rattle.flow_join.specs.declared.side.Side.TheVariants.{Waiting, Here, Over}
-use Rattle.flow_key.specs.Key.{key_of}
+use Rattle.flow_join.specs.declared.side.Side.TheVariants.{Waiting}
 use Rattle.flow_join.specs.Keys.{key_order}
 use Rattle.flow_join.specs.JoinState.{Manner, JoinState}
-use Rattle.flow_join.specs.Join.{receive_from, lets_go, goes_on, left_comes, right_comes, left_keyed, right_keyed, comes_at, comes, ends_at, IsHere, Holds, HasCome, IsNew, JoinReady}
-use Rattle.flow_join.specs.JoinLaws.{last-apart, IsKnown}
-use Rattle.flow_join.specs.Joined.{are_one, left_key_of, right_key_of, are_partners, all_pairs, left_alone, right_alone, is_below, IsAscending}
-use Rattle.flow_join.proofs.Orders.{order-same, order-itself, turned-less, not-below-up, not-below-other}
-use Rattle.flow_join.proofs.Pairing.{NoLeft, NoRight, HaveKey, grouped, skip-pairs, skip-lefts, right-kept, no-pairs, left-kept, right-same, skip-group-pairs, skip-group-lefts}
-use Rattle.flow_join.proofs.JoinPhases.{Store, join_at, at_side, SideKeyed, PairedSo, HeardSo, Step, Run, Comes_of, Future, Sends, Leads, Good, Rec, Below, side-push, keyed-push, SentOut, sent-out, heard-joined, heard-on, begun}
+use Rattle.flow_join.specs.Join.{receive_from, lets_go, comes}
+use Rattle.flow_join.specs.Joined.{are_one, left_key_of, right_key_of, all_pairs, left_alone, right_alone, is_below, IsAscending}
+use Rattle.flow_join.proofs.Orders.{not-below-up, not-below-other}
+use Rattle.flow_join.proofs.Pairing.{NoLeft, NoRight, HaveKey, grouped}
+use Rattle.flow_join.proofs.JoinPhases.{Store, join_at, at_side, HeardSo, Run, Comes_of, Future, Sends, Leads, Good, Below, SentOut, sent-out, heard-joined, heard-on, begun}
 
 -- A packet without a key is no partner of any.
 no-key : (a b : Option (List ℕ)) → b ≡ None → are_one a b ≡ false

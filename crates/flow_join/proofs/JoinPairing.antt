@@ -1,11 +1,11 @@
 -- What a Join sends while it pairs a left packet with its group.
 use Rattle.flow_limits.specs.declared.TheConstants.{TEXT_LIMIT}
-use Rattle.std.proofs.Common.{◌≡◌, ◌≢◌, ℕ, zero, suc, ◌+◌, ◌<◌, ◌≤◌, ◌==◌, Bool, true, false, List, [], ◌∷◌, ◌++◌, length, map, drop, get_or, nat_lt, nat_eq, cond, refl, sym, ap, ◌∙◌, subst, arith, Option, Some, None, IsSome, append_assoc, drop-cons}
+use Rattle.std.proofs.Common.{◌≡◌, ℕ, suc, ◌+◌, ◌<◌, ◌≤◌, ◌==◌, Bool, true, false, List, [], ◌∷◌, ◌++◌, length, map, drop, get_or, nat_lt, cond, refl, sym, ap, ◌∙◌, subst, arith, Option, Some, None, IsSome, append_assoc, drop-cons}
 use Rattle.std.specs.List.{AllByRecursion, flat_map}
 use Rattle.std.proofs.lemmas.Bool.Decides.{nat_tests}
 use Rattle.std.proofs.lemmas.List.{drop_all}
 use Rattle.flow_packet.specs.declared.packet.Kind.TheVariants.{Normal}
-use Rattle.flow_packet.specs.Tree.{Tree, content, id_of, text_of, packet_of}
+use Rattle.flow_packet.specs.Tree.{Tree, content, text_of, packet_of}
 use Rattle.flow_packet.specs.Hands.{packet_at, without, text_at, text_in}
 use Rattle.flow_packet.specs.Held.{Held, next_id, with_made, without_packet}
 use Rattle.flow_component.specs.declared.Wish.TheVariants as wishes
@@ -13,7 +13,7 @@ use Rattle.flow_component.specs.Laws.{Wishes, Fails}
 use Rattle.flow_component.specs.declared.Fail.TheVariants.{TextLimit}
 use Rattle.flow_component.specs.Ports.{send_first}
 use Rattle.flow_component.specs.Happenings.{Happening, Sent}
-use Rattle.flow_component.specs.Runs.{Poise, got, HeardEnd, Wakes, text_packet}
+use Rattle.flow_component.specs.Runs.{Poise, got, Wakes, text_packet}
 use Rattle.flow_component.proofs.Streams.{content-text, contents_in, flat_map-append}
 use Rattle.flow_component.proofs.Several.{packet_at-last, made-left}
 use Rattle.flow_join.specs.declared.side.Side.{Side}
@@ -23,9 +23,9 @@ use Rattle.flow_join.specs.Pairs.{pair_text}
 use Rattle.flow_join.specs.JoinState.{Manner, JoinState}
 use Rattle.flow_join.specs.Join.{receive_from, lacks_right, makes_pair, leaves_group, next_pair, pairs, Holds, IsNew}
 use Rattle.flow_join.specs.JoinLaws.{apart-right, left-gone}
-use Rattle.flow_join.specs.Joined.{left_key_of, right_key_of, are_partners, key_or_none, pair_of, pair_if, all_pairs, has_right, left_alone, right_alone, is_below}
+use Rattle.flow_join.specs.Joined.{left_key_of, right_key_of, key_or_none, pair_of, pair_if, all_pairs, has_right, left_alone, is_below}
 use Rattle.flow_join.proofs.Pairing.{NoRight, HaveKey, grouped, no-pairs, left-kept, left-taken, right-same, group-partner, group-pairs, drop-next, drop-all}
-use Rattle.flow_join.proofs.JoinPhases.{Store, join_at, at_side, SideKeyed, HeardSo, Run, Comes_of, Future, Sends, Leads, Good, Rec, Below, side-without, keyed-without, SentOut, sent-out, heard-joined, heard-on, begun}
+use Rattle.flow_join.proofs.JoinPhases.{Store, join_at, at_side, SideKeyed, HeardSo, Run, Comes_of, Future, Leads, Good, Below, side-without, keyed-without, SentOut, sent-out, heard-joined, heard-on, begun}
 use Rattle.flow_join.proofs.JoinComing.{let-left, sends-same}
 use Rattle.flow_join.proofs.LeftComing.{waits-left}
 

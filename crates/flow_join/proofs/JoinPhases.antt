@@ -1,9 +1,8 @@
 -- Where a run of a Join stands, and what is still to be sent then.
-use Rattle.std.proofs.Common.{◌≡◌, ◌≢◌, ℕ, ◌+◌, ◌<◌, ◌≤◌, Bool, true, false, List, [], ◌∷◌, ◌++◌, length, drop, refl, sym, ap, ◌∙◌, subst, arith, Option, Some, None, IsSome, if◌then◌else◌, append_assoc, nat_eq}
+use Rattle.std.proofs.Common.{◌≡◌, ◌≢◌, ℕ, ◌<◌, ◌≤◌, Bool, true, false, List, [], ◌∷◌, ◌++◌, length, drop, refl, sym, ap, ◌∙◌, subst, Option, Some, IsSome, if◌then◌else◌, append_assoc}
 use Rattle.std.specs.List.{AllByRecursion}
-use Rattle.std.proofs.lemmas.Bool.Decides.{nat_tests}
 use Rattle.flow_packet.specs.declared.packet.Kind.TheVariants.{Normal}
-use Rattle.flow_packet.specs.Tree.{Tree, content, id_of, kind_of, text_of}
+use Rattle.flow_packet.specs.Tree.{Tree, id_of, kind_of}
 use Rattle.flow_packet.specs.Hands.{packet_at, without, has_id, IsAtRoot, text_in}
 use Rattle.flow_packet.specs.Held.{Held, Sound}
 use Rattle.flow_packet.proofs.Places.{packet_at-without}

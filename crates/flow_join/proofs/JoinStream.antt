@@ -1,5 +1,5 @@
 -- What a Join makes of its streams.
-use Rattle.std.proofs.Common.{◌≡◌, ◌≢◌, ℕ, zero, suc, ◌+◌, ◌<◌, ◌≤◌, Bool, true, false, List, [], ◌∷◌, ◌++◌, length, drop, refl, sym, ap, ◌∙◌, subst, arith, Option, Some, None, append_assoc, append-nil, length-append, inl, inr, ◌⊎◌}
+use Rattle.std.proofs.Common.{◌≡◌, ◌≢◌, ℕ, zero, suc, ◌<◌, ◌≤◌, Bool, true, false, List, [], ◌∷◌, ◌++◌, length, drop, refl, sym, ap, ◌∙◌, subst, arith, Option, Some, None, append_assoc, append-nil, length-append, inl, inr}
 use Rattle.std.specs.List.{AllByRecursion}
 use Rattle.std.specs.Ordering.{is_lt}
 use Rattle.std.proofs.lemmas.List.{map-append}
@@ -10,7 +10,6 @@ use Rattle.flow_packet.specs.Hands.{packet_at, without, text_at, text_in}
 use Rattle.flow_packet.specs.Held.{Held, without_packet}
 use Rattle.flow_component.specs.declared.Wish.TheVariants as wishes
 use Rattle.flow_component.specs.declared.Answer.TheVariants as answers
-use Rattle.flow_component.specs.Laws.{Wishes}
 use Rattle.flow_component.specs.Happenings.{Happening, Started, Received, Ended, Sent, Learned}
 use Rattle.flow_component.specs.Runs.{Poise, fresh, got, sent, HeardEnd, Wakes, starts, text_packet}
 use Rattle.flow_component.proofs.Streams.{content-text, contents_in}
@@ -19,12 +18,12 @@ use Rattle.flow_join.specs.declared.side.Side.TheVariants.{Waiting, Here, Over}
 use Rattle.flow_key.specs.Key.{key_of}
 use Rattle.flow_join.specs.Keys.{key_order}
 use Rattle.flow_join.specs.JoinState.{Manner, JoinState, fresh_join}
-use Rattle.flow_join.specs.Join.{receive_from, lacks_left, gathers, compares, goes_so, goes_on, Holds, IsNew, JoinReady}
+use Rattle.flow_join.specs.Join.{lacks_left, gathers, compares, goes_so, goes_on, Holds, IsNew, JoinReady}
 use Rattle.flow_join.specs.JoinLaws.{apart-left, right-gone, IsKnown}
 use Rattle.flow_join.specs.Joined.{are_one, left_key_of, right_key_of, are_partners, all_pairs, left_alone, right_alone, is_below, IsJoined, AreJoinable, JoinMeaning, JoinIsSettled}
 use Rattle.flow_join.proofs.Orders.{order-same, order-itself, turned-less, not-below-other_left, one-itself}
 use Rattle.flow_join.proofs.Pairing.{NoLeft, NoRight, HaveKey, grouped, skip-pairs, skip-lefts, right-kept, right-taken, same-pairs, same-lefts}
-use Rattle.flow_join.proofs.JoinPhases.{Store, join_at, at_side, SideKeyed, HeardSo, Step, Run, Comes_of, Future, Leads, Good, Rec, Below, side-without, keyed-without}
+use Rattle.flow_join.proofs.JoinPhases.{Store, join_at, at_side, HeardSo, Step, Run, Comes_of, Leads, Good, Rec, Below, side-without, keyed-without}
 use Rattle.flow_join.proofs.JoinComing.{above-right, let-right, sends-same}
 use Rattle.flow_join.proofs.LeftComing.{waits-left}
 use Rattle.flow_join.proofs.RightComing.{waits-right}
@@ -215,8 +214,7 @@ first-steps m Started es p n q is step run d w =
     let c : Comes_of n (goes_on (fresh_join m) h) = step.comes_to ∙ ap (λ (k : JoinState). goes_on k h) component in
     let ready : Holds Waiting Waiting h.packets × IsNew h = subst (λ (k : JoinState). JoinReady k h answers.Start) component step.is_ready in
     let good : Good m Waiting Waiting empty_store h.packets = record { left_keyed = tt; right_keyed = tt; group_keyed = tt; few = omega arith; none = refl } in
-    let g = (join_run m es q d).0 (Started ∷ []) Waiting Waiting empty_store h n c ready.0 ready.1 good tt tt (λ e. cc) run w.1 in
-    (
+    let g = (join_run m es q d).0 (Started ∷ []) Waiting Waiting empty_store h n c ready.0 ready.1 good tt tt (λ e. cc) run w.1 in (
       record { pairs_all = g.sends.pairs_so; lefts_alone = g.sends.lefts_so; lefts_silent = g.sends.lefts_none; rights_alone = g.sends.rights_so; rights_silent = g.sends.rights_none },
       record { left_ascends = g.future.left_ascends; right_ascends = g.future.right_ascends; left_plain = g.future.left_plain; right_plain = g.future.right_plain },
       (let o = g.future.once in omega arith),
@@ -229,13 +227,12 @@ first-steps m (Learned port level) es p n q is step run d w = absurd step.is_rea
 
 -- Over a whole run it sends what its meaning makes of what it got.
 pub join_meaning : JoinMeaning
-join_meaning m [] run w =
-    (
-      record { pairs_all = refl; lefts_alone = λ _. refl; lefts_silent = λ _. refl; rights_alone = λ _. refl; rights_silent = λ _. refl },
-      record { left_ascends = tt; right_ascends = tt; left_plain = tt; right_plain = tt },
-      omega arith,
-      λ some. absurd (some refl),
-    )
+join_meaning m [] run w = (
+  record { pairs_all = refl; lefts_alone = λ _. refl; lefts_silent = λ _. refl; rights_alone = λ _. refl; rights_silent = λ _. refl },
+  record { left_ascends = tt; right_ascends = tt; left_plain = tt; right_plain = tt },
+  omega arith,
+  λ some. absurd (some refl),
+)
 join_meaning m (e ∷ es) run w = first-steps m e es (fresh (fresh_join m) run.maker) run.runs.0 run.last refl run.runs.1 run.runs.2 run.idle w
 
 both-ways : {X : Type 0} (b : Bool) (a c : X) → (b ≡ true → a ≡ c) → (b ≡ false → a ≡ c) → a ≡ c

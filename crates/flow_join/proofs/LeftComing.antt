@@ -1,20 +1,20 @@
 -- What a Join sends from a wish for a left packet on.
-use Rattle.std.proofs.Common.{◌≡◌, ◌≢◌, ℕ, ◌+◌, ◌<◌, ◌≤◌, Bool, true, false, List, [], ◌∷◌, ◌++◌, length, drop, refl, sym, ap, ◌∙◌, subst, arith, Option, Some, None}
+use Rattle.std.proofs.Common.{◌≡◌, ℕ, ◌≤◌, false, List, [], ◌∷◌, ◌++◌, drop, refl, sym, ap, ◌∙◌, subst, arith, Option, Some, None}
 use Rattle.std.specs.List.{AllByRecursion}
 use Rattle.std.specs.Ordering.{is_lt}
 use Rattle.std.specs.declared.cmp.Ordering.{Ordering}
 use Rattle.std.specs.declared.cmp.Ordering.TheVariants.{Less, Equal, Greater}
 use Rattle.flow_packet.specs.declared.packet.Kind.{Kind}
 use Rattle.flow_packet.specs.declared.packet.Kind.TheVariants.{Normal, Open, Close}
-use Rattle.flow_packet.specs.Tree.{Tree, content, id_of, kind_of, text_of, all_ids}
+use Rattle.flow_packet.specs.Tree.{Tree, content, id_of, kind_of, all_ids}
 use Rattle.flow_packet.specs.Ids.{times}
 use Rattle.flow_packet.specs.Hands.{packet_at, without, kind_at, kind_in, text_at, text_in, IsAtRoot}
-use Rattle.flow_packet.specs.Held.{Held, Sound, next_id, without_packet}
+use Rattle.flow_packet.specs.Held.{Held, next_id, without_packet}
 use Rattle.flow_component.specs.declared.Wish.TheVariants as wishes
 use Rattle.flow_component.specs.declared.Answer.TheVariants as answers
 use Rattle.flow_component.specs.Laws.{Wishes}
 use Rattle.flow_component.specs.Happenings.{Happening, Started, Received, Ended, Sent, Learned}
-use Rattle.flow_component.specs.Runs.{Poise, got, HeardEnd, Wakes, starts}
+use Rattle.flow_component.specs.Runs.{Poise, got, Wakes}
 use Rattle.flow_component.proofs.Streams.{Comes-packets, content-text, content-kind, contents_in}
 use Rattle.flow_component.proofs.Roots.{IsAtRoot-push}
 use Rattle.flow_component.proofs.Several.{packet_at-last, without-last}
@@ -25,12 +25,12 @@ use Rattle.flow_join.specs.declared.side.Side.TheVariants.{Waiting, Here, Over}
 use Rattle.flow_key.specs.Key.{key_of}
 use Rattle.flow_join.specs.Keys.{key_order}
 use Rattle.flow_join.specs.JoinState.{Manner, JoinState}
-use Rattle.flow_join.specs.Join.{receive_from, goes_on, left_comes, left_keyed, comes, ends_at, Holds, HasCome, IsNew, Waits, JoinReady}
+use Rattle.flow_join.specs.Join.{receive_from, goes_on, left_comes, left_keyed, comes, ends_at, Holds, IsNew, Waits, JoinReady}
 use Rattle.flow_join.specs.JoinLaws.{last-apart, left-over}
-use Rattle.flow_join.specs.Joined.{left_key_of, right_key_of, all_pairs, left_alone, right_alone, is_below, IsAscending}
+use Rattle.flow_join.specs.Joined.{left_key_of, right_key_of, all_pairs, is_below}
 use Rattle.flow_join.proofs.Orders.{order-same, order-itself, turned-less}
-use Rattle.flow_join.proofs.Pairing.{NoLeft, NoRight, HaveKey, grouped, no-pairs, left-kept, right-same, skip-group-pairs, skip-group-lefts}
-use Rattle.flow_join.proofs.JoinPhases.{Store, join_at, at_side, SideKeyed, PairedSo, HeardSo, Step, Run, Comes_of, Future, Sends, Leads, Good, Rec, Below, side-push, keyed-push, heard-joined, heard-on, begun}
+use Rattle.flow_join.proofs.Pairing.{grouped, no-pairs, left-kept, right-same, skip-group-pairs, skip-group-lefts}
+use Rattle.flow_join.proofs.JoinPhases.{Store, join_at, at_side, SideKeyed, HeardSo, Step, Run, Comes_of, Future, Leads, Good, Rec, Below, side-push, keyed-push, heard-joined, heard-on, begun}
 use Rattle.flow_join.proofs.JoinComing.{keyless-left, above-group, from-lower, ascends-keyed, ascends-bare, let-left, sends-same, sends-brought, sends-ended}
 
 module _ (m : Manner) (before es : List Happening) (q : Poise JoinState) (d : q.wish ≡ wishes.Deactivate) (rec : Rec m es q) (below : Below m es q) (r : Side) (s : Store) (held : Held) (p : Poise JoinState)

@@ -1,11 +1,8 @@
 -- What the pairs and the packets without partner come to, as packets come to both streams and leave them.
-use Rattle.std.proofs.Common.{◌≡◌, ◌≢◌, ℕ, suc, zero, ◌+◌, ◌<◌, ◌≤◌, Bool, true, false, not, ◌||◌, List, [], ◌∷◌, ◌++◌, length, map, drop, Option, Some, None, if◌then◌else◌, refl, sym, ap, ◌∙◌, subst, arith, append_assoc, append-nil}
-use Rattle.std.specs.List.{AllByRecursion, filter, flat_map, list_any}
-use Rattle.std.specs.Str.{bytes_eq}
-use Rattle.std.proofs.lemmas.List.Folds.{list_any-append}
+use Rattle.std.proofs.Common.{◌≡◌, ℕ, suc, zero, ◌≤◌, Bool, true, false, not, ◌||◌, List, [], ◌∷◌, ◌++◌, length, map, drop, Some, if◌then◌else◌, refl, ap, ◌∙◌, arith}
+use Rattle.std.specs.List.{AllByRecursion, flat_map}
 use Rattle.flow_packet.specs.Tree.{Tree, text_of}
 use Rattle.flow_component.specs.Runs.{text_packet}
-use Rattle.flow_component.proofs.Streams.{flat_map-append}
 use Rattle.flow_key.specs.Key.{key_of}
 use Rattle.flow_join.specs.Pairs.{pair_text}
 use Rattle.flow_join.specs.JoinState.{Manner}

@@ -1,5 +1,5 @@
 -- How a text is read as a template for pairs, part by part.
-use Rattle.std.proofs.Common.{◌≡◌, ℕ, ◌+◌, ◌<◌, ◌≤◌, List, [], ◌∷◌, ◌++◌, length, drop, Option, Some, None, sym, subst, ap, ◌∙◌, arith, append_assoc, append-nil, drop-drop, length-drop}
+use Rattle.std.proofs.Common.{◌≡◌, ℕ, ◌+◌, ◌<◌, ◌≤◌, List, [], ◌∷◌, ◌++◌, length, drop, Some, None, sym, subst, ap, ◌∙◌, arith, append_assoc, append-nil, drop-drop, length-drop}
 use Rattle.std.proofs.lemmas.List.{drop_all}
 use Rattle.std.proofs.lemmas.Option.{none-some, same_Some}
 use Rattle.flow_join.specs.declared.pairs.PairPart.{PairPart}

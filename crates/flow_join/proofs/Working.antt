@@ -1,5 +1,5 @@
 -- What the steps of a Join do to its hands.
-use Rattle.std.proofs.Common.{◌≡◌, ℕ, ◌+◌, ◌==◌, Bool, true, false, List, [], ◌∷◌, ◌++◌, length, if◌then◌else◌, sym, ap, ◌∙◌}
+use Rattle.std.proofs.Common.{◌≡◌, ℕ, ◌+◌, ◌==◌, Bool, false, List, [], ◌∷◌, ◌++◌, length, if◌then◌else◌, sym, ap, ◌∙◌}
 use Rattle.flow_packet.specs.Hands.{Holding, IsAtRoot, text_at}
 use Rattle.flow_packet.specs.Held.{held_of, without_packet}
 use Rattle.flow_component.specs.declared.Wish.{Wish}

@@ -1,6 +1,6 @@
 -- Join keeps the laws of components.
 use Rattle.flow_limits.specs.declared.TheConstants.{HANDS_LIMIT, TEXT_LIMIT}
-use Rattle.std.proofs.Common.{◌≡◌, ◌≢◌, ℕ, ◌+◌, ◌<◌, ◌≤◌, ◌==◌, Bool, true, false, List, [], ◌∷◌, ◌++◌, length, drop, nat_lt, cond, Option, Some, None, refl, sym, subst, ap, ◌∙◌, arith, length-append}
+use Rattle.std.proofs.Common.{◌≡◌, ◌≢◌, ℕ, ◌+◌, ◌<◌, ◌≤◌, ◌==◌, Bool, true, false, List, [], ◌∷◌, ◌++◌, length, nat_lt, cond, Option, Some, None, refl, sym, subst, ap, ◌∙◌, arith, length-append}
 use Rattle.std.specs.declared.cmp.Ordering.{Ordering}
 use Rattle.std.specs.declared.cmp.Ordering.TheVariants.{Less, Equal, Greater}
 use Rattle.flow_packet.specs.declared.packet.Kind.{Kind}
@@ -8,7 +8,7 @@ use Rattle.flow_packet.specs.declared.packet.Kind.TheVariants.{Normal, Open, Clo
 use Rattle.flow_packet.specs.Tree.{Tree, id_of, ids, all_ids, packet_of}
 use Rattle.flow_packet.specs.Ids.{times}
 use Rattle.flow_packet.specs.Hands.{IsAtRoot, without, kind_at, text_at}
-use Rattle.flow_packet.specs.Held.{Held, Sound, next_id, with_packet, without_packet, with_made}
+use Rattle.flow_packet.specs.Held.{Held, next_id, with_packet, without_packet, with_made}
 use Rattle.flow_packet.specs.Edits.{ComesBy}
 use Rattle.flow_packet.proofs.Places.{packet_at-without}
 use Rattle.flow_component.specs.declared.Answer.{Answer}
@@ -25,7 +25,7 @@ use Rattle.flow_join.specs.declared.side.Side.TheVariants.{Waiting, Here, Over}
 use Rattle.flow_key.specs.Key.{key_of}
 use Rattle.flow_join.specs.Keys.{key_order}
 use Rattle.flow_join.specs.JoinState.{Manner, JoinState}
-use Rattle.flow_join.specs.Join.{receive_from, lets_go, lacks_right, lacks_left, gathers, makes_pair, leaves_group, next_pair, pairs, compares, goes_so, goes_on, left_comes, right_comes, left_keyed, right_keyed, comes_at, comes, input_of, ends_at, join_next, join_shape, manner_uses, join_uses, count_at, IsHere, AreApart, Holds, HasCome, Waits, IsNew, JoinReady, join_rules}
+use Rattle.flow_join.specs.Join.{receive_from, lets_go, lacks_right, makes_pair, leaves_group, next_pair, pairs, compares, goes_so, goes_on, left_comes, right_comes, left_keyed, right_keyed, comes_at, comes, input_of, ends_at, join_next, join_shape, manner_uses, join_uses, count_at, IsHere, AreApart, Holds, HasCome, Waits, IsNew, JoinReady, join_rules}
 
 -- A packet at the end of hands in which no id stands twice has another id than those before it.
 pub last-apart : (ts : List Tree) (t : Tree) → ((id : ℕ) → times id (all_ids (ts ++ t ∷ [])) ≤ 1) → (id : ℕ) → IsAtRoot ts id → id_of t ≢ id
@@ -135,24 +135,28 @@ two-sides : (P : Side → Side → Type 0) (state : JoinState) (left right : Sid
 two-sides P state left right e f p = subst (λ (l : Side). P l state.right) (sym e) (subst (P left) (sym f) p)
 
 receives-left : (manner : Manner) (old held : Held) (state : JoinState) (right : Side) → ComesBy old held → state.left ≡ Waiting → state.right ≡ right → Holds Waiting right held.packets → IsLawful manner old (Wishes state held (receive_from 0))
-receives-left manner old held state right w e f h =
-    ((w, omega arith), (
+receives-left manner old held state right w e f h = (
+  (w, omega arith),
+  (
     (λ s. (two-sides Waits state Waiting right e f tt, two-sides (λ l r. Holds l r held.packets) state Waiting right e f h, Sound-new held s)),
     (λ t s. (two-sides (λ l r. HasCome l r (held.packets ++ t ∷ []) (id_of t)) state Waiting right e f (left-came right held.packets t s.once h), Sound-new (with_packet held t) s)),
     (λ text s.
-    let t = packet_of (next_id held) Normal text [] in
-    (two-sides (λ l r. HasCome l r (held.packets ++ t ∷ []) (next_id held)) state Waiting right e f (left-came right held.packets t s.once h), Sound-new (with_made held Normal text) s)),
-    ))
+        let t = packet_of (next_id held) Normal text [] in
+        (two-sides (λ l r. HasCome l r (held.packets ++ t ∷ []) (next_id held)) state Waiting right e f (left-came right held.packets t s.once h), Sound-new (with_made held Normal text) s)),
+  ),
+)
 
 receives-right : (manner : Manner) (old held : Held) (state : JoinState) (left : Side) → ComesBy old held → state.left ≡ left → state.right ≡ Waiting → IsKnown left → Holds left Waiting held.packets → IsLawful manner old (Wishes state held (receive_from 1))
-receives-right manner old held state left w e f known h =
-    ((w, omega arith), (
+receives-right manner old held state left w e f known h = (
+  (w, omega arith),
+  (
     (λ s. (two-sides Waits state left Waiting e f (waits-right left known), two-sides (λ l r. Holds l r held.packets) state left Waiting e f h, Sound-new held s)),
     (λ t s. (two-sides (λ l r. HasCome l r (held.packets ++ t ∷ []) (id_of t)) state left Waiting e f (come-right left (held.packets ++ t ∷ []) (id_of t) known (right-came left held.packets t s.once h)), Sound-new (with_packet held t) s)),
     (λ text s.
-    let t = packet_of (next_id held) Normal text [] in
-    (two-sides (λ l r. HasCome l r (held.packets ++ t ∷ []) (next_id held)) state left Waiting e f (come-right left (held.packets ++ t ∷ []) (next_id held) known (right-came left held.packets t s.once h)), Sound-new (with_made held Normal text) s)),
-    ))
+        let t = packet_of (next_id held) Normal text [] in
+        (two-sides (λ l r. HasCome l r (held.packets ++ t ∷ []) (next_id held)) state left Waiting e f (come-right left (held.packets ++ t ∷ []) (next_id held) known (right-came left held.packets t s.once h)), Sound-new (with_made held Normal text) s)),
+  ),
+)
 
 -- What has no partner leaves.
 let-left : (b : Bool) (state : JoinState) (held : Held) (id : ℕ) (right : Side) → state.manner.sends_left ≡ b → state.left ≡ Waiting → state.right ≡ right → Holds (Here id) right held.packets → IsLawful state.manner held (lets_go b state held id 1 0)
@@ -186,11 +190,13 @@ module _ (state : JoinState) (held : Held) (new : IsNew held) where
 
       by : (long : Bool) → IsLawful state.manner held (cond long (Fails state held (TextLimit (length text))) (Wishes (record state { paired = state.paired + 1 }) (with_made held Normal text) (send_first (next_id held))))
       by true = ((comes_same held, tt), tt)
-      by false =
-          ((comes_made held Normal text few, (refl, IsAtRoot-made held Normal text)), λ s. (
+      by false = (
+        (comes_made held Normal text few, (refl, IsAtRoot-made held Normal text)),
+        λ s. (
           two-sides (λ l r. Holds l r (without (with_made held Normal text).packets (next_id held))) state (Here left) right e f (subst (Holds (Here left) right) (sym (made-left held Normal text new)) h),
           Sound-new (without_packet (with_made held Normal text) (next_id held)) s,
-          ))
+        ),
+      )
 
   module _ (left : ℕ) (right : Side) (e : state.left ≡ Here left) (f : state.right ≡ right) (h : Holds (Here left) right held.packets) where
     left-group : IsLawful state.manner held (leaves_group state held left)

@@ -1,6 +1,6 @@
 //! Templates for pairs of texts with one key.
 
-ghost use Rattle.std.specs.Prelude.{◌≡◌, ◌+◌, ◌<◌, ◌≤◌, ◌++◌, ◌∷◌, [], length, drop, take, bytes_eq, IfErr, IfOk, IfSome, IsTrue, OnOk};
+ghost use Rattle.std.specs.Prelude.{◌≡◌, ◌+◌, ◌<◌, ◌≤◌, ◌++◌, ◌∷◌, [], length, drop, take, bytes_eq, None, IfErr, IfOk, IfSome, IsTrue, OnOk};
 ghost use Rattle.flow_join.specs.Pairs.{dollar_part, first_part, part_text, pair_text, tabbed, Spells, IsPairTemplate};
 
 use std::alloc::{AllocError, Global};
@@ -95,6 +95,7 @@ fn parts_in(alloc: Global, text: &[u8]) -> Result<Result<Vec<PairPart>, usize>, 
     ensures spelled { IfOk result (λ read. IfOk read (λ parts. Spells text.now parts.items)) }
     ensures refused { IfOk result (λ read. IfErr read (λ _. IsPairTemplate text.now → ⊥)) }
     ensures place { IfOk result (λ read. IfErr read (λ place. place < length text.now)) }
+    ensures slip { IfOk result (λ read. IfErr read (λ place. first_part (drop place text.now) ≡ None)) }
 {
     let mut parts = Vec::new(alloc);
     let mut at: usize = 0;
@@ -192,6 +193,7 @@ impl PairTemplate {
         ensures spelled { IfOk result (λ read. IfOk read (λ template. Spells text.now template)) }
         ensures refused { IfOk result (λ read. IfErr read (λ _. IsPairTemplate text.now → ⊥)) }
         ensures place { IfOk result (λ read. IfErr read (λ place. place < length text.now)) }
+        ensures slip { IfOk result (λ read. IfErr read (λ place. first_part (drop place text.now) ≡ None)) }
     {
         match parts_in(alloc, text)? {
             Ok(parts) => Ok(Ok(PairTemplate { parts })),

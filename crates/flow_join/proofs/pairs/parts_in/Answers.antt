@@ -23,5 +23,8 @@ returns-in_default-clause-refused c =
     let none : first_part (drop at text) ≡ None = rw (← c.behind-rest.ensures, ← c.first_part.ensures.part, c.in_default.is) in
     λ template. read_stops text c.loop-at.parts.items at c.loop-at.invariant.1 none c.loop-at-test.true template.0 template.1
 
+pub returns-in_default-clause-slip : goal.returns-in_default-clause-slip
+returns-in_default-clause-slip c = rw (← c.behind-rest.ensures, ← c.first_part.ensures.part, c.in_default.is)
+
 pub returns-clause-spelled : goal.returns-clause-spelled
 returns-clause-spelled c = read_all c.args.text.now c.loop-at.parts.items c.loop-at.at c.loop-at.invariant.1 (omega (arith, c.loop-at-test.false))

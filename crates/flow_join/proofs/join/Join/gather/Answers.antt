@@ -1,4 +1,4 @@
-use Rattle.std.proofs.Common.{◌≡◌, ℕ, List, [], ◌∷◌, ◌++◌, ap, ◌∙◌}
+use Rattle.std.proofs.Common.{◌≡◌, [], ◌∷◌, ◌++◌, ap, ◌∙◌}
 use Rattle.flow_join.specs.declared.side.Side.TheVariants.{Waiting}
 use Rattle.flow_join.specs.JoinState.{JoinState}
 use Rattle.flow_join.proofs.Working.{gathered}

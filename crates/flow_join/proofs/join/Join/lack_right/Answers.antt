@@ -1,4 +1,4 @@
-use Rattle.std.proofs.Common.{◌≡◌, Bool, false, sym, ap, ◌∙◌}
+use Rattle.std.proofs.Common.{◌≡◌, false, sym, ap, ◌∙◌}
 use Rattle.flow_join.specs.declared.side.Side.TheVariants.{Waiting}
 use Rattle.flow_join.specs.JoinState.{JoinState}
 use Rattle.flow_join.proofs.Working.{lacked-right}
