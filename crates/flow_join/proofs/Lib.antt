@@ -8,3 +8,4 @@ pub mod RightComing
 pub mod JoinPairing
 pub mod JoinStream
 pub mod Spelling
+pub mod JoinFailing

@@ -366,7 +366,7 @@ module _ (held : Held) where
   ends-manner state (Here left) = goes-manner (record state { right = Over }) state.left Over
   ends-manner state Over = goes-manner (record state { right = Over }) state.left Over
 
-  next-manner : (state : JoinState) (answer : Answer) → IsOf state.manner (join_next state held answer)
+  pub next-manner : (state : JoinState) (answer : Answer) → IsOf state.manner (join_next state held answer)
   next-manner state answers.Start = goes-manner state state.left state.right
   next-manner state (answers.Got id) = comes-manner state id (kind_at held.packets id)
   next-manner state answers.End = ends-manner state state.left

@@ -4,3 +4,4 @@ pub mod JoinState
 pub mod Join
 pub mod JoinLaws
 pub mod Joined
+pub mod Failing
