@@ -1,0 +1,11 @@
+pub mod Working
+pub mod Orders
+pub mod Pairing
+pub mod JoinPhases
+pub mod JoinComing
+pub mod LeftComing
+pub mod RightComing
+pub mod JoinPairing
+pub mod JoinStream
+pub mod Spelling
+pub mod JoinFailing
