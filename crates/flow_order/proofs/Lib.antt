@@ -1,0 +1,4 @@
+pub mod Ranks
+pub mod Stable
+pub mod Keying
+pub mod SortByStream

@@ -1,0 +1,9 @@
+//! Orders of texts by their keys, and the components that rest on them: one that sorts a stream, and one that passes a
+//! sorted stream on and fails at the first packet out of order. The key of a text is what `flow_key` finds. `Order` has
+//! the contract of the orders; that of a component is that of the trait with its own rules in `specs/`, and `meanings`
+//! has the laws of what leaves them as whole streams.
+#![tactic(auto)]
+
+mod order;
+
+pub use order::{KeyAs, Order, orders_are_preorders};
