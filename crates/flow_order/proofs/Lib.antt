@@ -1,4 +1,6 @@
 pub mod Ranks
 pub mod Stable
 pub mod Keying
+pub mod Arranging
 pub mod SortByStream
+pub mod AscendsStream

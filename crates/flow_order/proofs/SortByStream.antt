@@ -156,11 +156,13 @@ module _ (ranking : Ranking) (rests : Bool) where
       → Wishes m.component m.held m.wish ≡ by_sort (at place) (passes (sort_at place) held (id_of_bracket bracket)) → Runs sort_by_rules m es q → Rec es q
       → (sent 0 es ≡ map content (behind bracket) ++ sorted [] (got 0 es)) × (sent 1 es ≡ rest (got 0 es))
   passed-on es m q place held None e c r rec =
+      let d : Wishes m.component m.held m.wish ≡ Wishes (at places.Idle) held wishes.Deactivate = c in
       let component : m.component ≡ at places.Idle = cc in
       let hands : m.held ≡ held = cc in
       let wish : m.wish ≡ wishes.Deactivate = cc in
       rec m Out (component, inr wish, ap (λ (h : Held). h.packets) hands ∙ e) r
   passed-on es m q place held (Some t) e c r rec =
+      let d : Wishes m.component m.held m.wish ≡ Wishes (at places.Idle) held (send_first (id_of t)) = c in
       let component : m.component ≡ at places.Idle = cc in
       let hands : m.held ≡ held = cc in
       let wish : m.wish ≡ send_first (id_of t) = cc in
@@ -231,10 +233,11 @@ module _ (ranking : Ranking) (rests : Bool) where
   leaves-first t zs e = rw e refl
 
   rest-first : (t : Tree) (zs : List Tree) → rests ≡ true → stays ranking t ≡ false → rest (t ∷ zs) ≡ t ∷ rest zs
-  rest-first t zs r e = rw (r, e) refl
+  rest-first t zs r e =
+      ap (λ b. if b then filter (λ packet. not (stays ranking packet)) (t ∷ zs) else []) r ∙ rw e refl ∙ sym (ap (λ b. t ∷ (if b then filter (λ packet. not (stays ranking packet)) zs else [])) r)
 
   rest-none : (zs : List Tree) → rests ≡ false → rest zs ≡ []
-  rest-none zs r = rw r refl
+  rest-none zs r = ap (λ b. if b then filter (λ packet. not (stays ranking packet)) zs else []) r
 
   -- the stream with a packet that comes, by its kind
   along : (stretch : List Tree) (t : Tree) (zs : List Tree) (kind : Kind) → kind_of t ≡ kind → stays ranking t ≡ true → sorted stretch (t ∷ zs) ≡ leaves_with ranking stretch t kind ++ sorted (stretch_after stretch t kind) zs
@@ -253,10 +256,12 @@ module _ (ranking : Ranking) (rests : Bool) where
     where
       by : (high : Bool) → Wishes m.component m.held m.wish ≡ by_sort (at places.Idle) (if high then Fails (sort_at places.Idle) held TreeDepth else Wishes (sort_at (places.Gathering (next_id held))) (record held { made = held.made + 1; packets = wrapped held.packets (next_id held) items (id_of t) }) receive_first)
           → (sent 0 es ≡ sorted (content t ∷ []) (got 0 es)) × (sent 1 es ≡ rest (got 0 es))
-      by true d = absurd (cc)
+      by true d = absurd (let k : Wishes m.component m.held m.wish ≡ Fails (at places.Idle) held TreeDepth = d in cc)
       by false d =
+          let new : Held = record held { made = held.made + 1; packets = wrapped held.packets (next_id held) items (id_of t) } in
+          let k : Wishes m.component m.held m.wish ≡ Wishes (at (places.Gathering (next_id held))) new receive_first = d in
           let component : m.component ≡ at (places.Gathering (next_id held)) = cc in
-          let hands : m.held ≡ record held { made = held.made + 1; packets = wrapped held.packets (next_id held) items (id_of t) } = cc in
+          let hands : m.held ≡ new = cc in
           let wish : m.wish ≡ receive_first = cc in
           let one : m.held.packets ≡ carrier_of (next_id held) (t ∷ []) ∷ [] = ap (λ (x : Held). x.packets) hands ∙ wrapped-only held (next_id held) (id_of t) h ∙ ap (λ (u : Tree). carrier_of (next_id held) (u ∷ []) ∷ []) (sym same) in
           rec m (In (next_id held) t []) (component, wish, one) r
@@ -264,6 +269,7 @@ module _ (ranking : Ranking) (rests : Bool) where
     where
       by : (b : Bool) → rests ≡ b → Wishes m.component m.held m.wish ≡ refuses b (at places.Idle) held (id_of t) → Leads Out es (content t ∷ got 0 es)
       by true s d =
+          let k : Wishes m.component m.held m.wish ≡ Wishes (at places.Idle) held (wishes.Send second_port (id_of t)) = d in
           let component : m.component ≡ at places.Idle = cc in
           let hands : m.held ≡ held = cc in
           let wish : m.wish ≡ wishes.Send second_port (id_of t) = cc in
@@ -304,10 +310,12 @@ module _ (ranking : Ranking) (rests : Bool) where
     where
       by : (high : Bool) → Wishes m.component m.held m.wish ≡ by_sort (at (places.Gathering id)) (if high then Fails (sort_at (places.Gathering id)) held TreeDepth else Wishes (sort_at (places.Gathering id)) (record held { packets = attached held.packets id items (id_of t) }) receive_first)
           → (sent 0 es ≡ sorted (map content (u ∷ us) ++ content t ∷ []) (got 0 es)) × (sent 1 es ≡ rest (got 0 es))
-      by true d = absurd (cc)
+      by true d = absurd (let k : Wishes m.component m.held m.wish ≡ Fails (at (places.Gathering id)) held TreeDepth = d in cc)
       by false d =
+          let new : Held = record held { packets = attached held.packets id items (id_of t) } in
+          let k : Wishes m.component m.held m.wish ≡ Wishes (at (places.Gathering id)) new receive_first = d in
           let component : m.component ≡ at (places.Gathering id) = cc in
-          let hands : m.held ≡ record held { packets = attached held.packets id items (id_of t) } = cc in
+          let hands : m.held ≡ new = cc in
           let wish : m.wish ≡ receive_first = cc in
           let one : m.held.packets ≡ carrier_of id (u ∷ (us ++ t ∷ [])) ∷ [] =
           ap (λ (x : Held). x.packets) hands ∙ two-gathered held id (id_of t) h ∙ (λ j. with_chains (first j) (attach_to (chains_of (first j)) items (second j)) ∷ []) ∙ ap (λ (x : Tree). x ∷ []) (attach-carrier id (u ∷ us) t) in
@@ -325,6 +333,7 @@ module _ (ranking : Ranking) (rests : Bool) where
 
       by : (b : Bool) → rests ≡ b → Wishes m.component m.held m.wish ≡ refuses b (at (places.Gathering id)) held (id_of t) → Leads (In id u us) es (content t ∷ got 0 es)
       by true s d =
+          let k : Wishes m.component m.held m.wish ≡ Wishes (at (places.Gathering id)) held (wishes.Send second_port (id_of t)) = d in
           let component : m.component ≡ at (places.Gathering id) = cc in
           let hands : m.held ≡ held = cc in
           let wish : m.wish ≡ wishes.Send second_port (id_of t) = cc in
@@ -459,7 +468,7 @@ module _ (ranking : Ranking) (rests : Bool) where
   run (e ∷ es) q d l p phase st r = step es p r.0 q e phase st l r.1 r.2 (run es q d (later e es l))
 
 rests-others : (ranking : Ranking) (rests : Bool) (zs others : List Tree) → others ≡ rest ranking rests zs → rests ≡ true → others ≡ filter (λ packet. not (stays ranking packet)) zs
-rests-others ranking rests zs others e r = e ∙ rw r refl
+rests-others ranking rests zs others e r = e ∙ ap (λ b. if b then filter (λ packet. not (stays ranking packet)) zs else []) r
 
 -- Over a whole run it sends what its meaning makes of what it got.
 pub sort_by_meaning : SortByMeaning

@@ -4,4 +4,6 @@ pub mod Ranking
 pub mod Sorted
 pub mod SortBy
 pub mod SortByLaws
+pub mod Ascends
+pub mod AscendsLaws
 pub mod Meanings

@@ -8,6 +8,7 @@ use Rattle.flow_sort.specs.declared.sort.SortPlace.TheVariants.{Idle}
 use Rattle.flow_order.specs.Ranking.{Ranking, stays}
 use Rattle.flow_order.specs.Sorted.{stable_sort, sorted_stretches, IsStableSort}
 use Rattle.flow_order.specs.SortBy.{SortByState, sort_by_rules}
+use Rattle.flow_order.specs.Ascends.{Ascends, sorted_rules}
 
 -- A SortBy at its start.
 abbrev pub fresh_sort_by : Ranking → Bool → SortByState
@@ -23,6 +24,15 @@ pub record IsSorted (ranking : Ranking) (rests : Bool) (stream sorted rest : Lis
 -- A SortBy whose input ends for good makes this of what it gets.
 abbrev pub SortByMeaning : Type 0
 SortByMeaning = (ranking : Ranking) (rests : Bool) (told : List Happening) → EndedRun sort_by_rules (fresh_sort_by ranking rests) told → EndIsLast 0 told → IsSorted ranking rests (got 0 told) (sent 0 told) (sent 1 told)
+
+-- A Sorted that has come to its end has sent what it got, and each stretch of that is sorted.
+pub record IsPassed (ranking : Ranking) (stream passed : List Tree) : Type 0 where
+  pub passes_all : passed ≡ stream
+  pub ascends : Ascends ranking stream
+
+-- A Sorted is in this state at its start.
+abbrev pub SortedMeaning : Type 0
+SortedMeaning = (ranking : Ranking) (told : List Happening) → EndedRun sorted_rules (record { ranking = ranking; last = None }) told → IsPassed ranking (got 0 told) (sent 0 told)
 
 -- The packets in the order of their keys are a stable sort of the packets, and there is no other.
 abbrev pub IsTheStableSort : Type 0

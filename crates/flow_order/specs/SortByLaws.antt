@@ -17,10 +17,12 @@ use Rattle.flow_component.specs.declared.Answer.TheVariants as answers
 use Rattle.flow_component.specs.declared.Wish.{Wish}
 use Rattle.flow_component.specs.declared.Wish.TheVariants as wishes
 use Rattle.flow_component.specs.declared.Fail.{Fail}
+use Rattle.flow_component.specs.declared.Fail.TheVariants as fails
 use Rattle.flow_component.specs.Laws.{Lawful, Outcome, Wishes, Fails, Obeys, StaysReady, ReadyAfter, IsAllowed, IsOwnCause, component_after}
 use Rattle.flow_component.specs.Ports.{one_to_one, uses_first, receive_first}
 use Rattle.flow_component.specs.Alone.{HoldsOnly}
 use Rattle.flow_component.proofs.Comings.{comes_same, comes_dropped}
+use Rattle.flow_component.proofs.Lifting.{component_after-as}
 use Rattle.flow_component.proofs.Lone.{HoldsOnly-without, HoldsOnly-root, HoldsOnly-came, HoldsOnly-made_alone}
 use Rattle.flow_streams.specs.Bundle.{items, HoldsTwo}
 use Rattle.flow_streams.specs.BundleLaws.{came-two, two-root, two-gone}
@@ -94,7 +96,7 @@ used-first rests port u = by (port == 0) (port == 1) refl refl u
     by : (a b : Bool) → (port == 0) ≡ a → (port == 1) ≡ b → IsTrue a → IsTrue (if b then rests else a)
     by true true e f t = absurd (let h : port ≡ 0 = grind (arith, nat_tests, e) in let k : port ≡ 1 = grind (arith, nat_tests, f) in omega (arith, h, k))
     by true false e f t = t
-    by false b e f t = absurd t
+    by false b e f t = absurd (let h : false ≡ true = t in cc)
 
 -- What the Sort comes to is lawful.
 by-lawful : (state : SortByState) (held : Held) (outcome : Outcome SortState) → SortIsLawful held outcome → IsLawful state.rests held (by_sort state outcome)
@@ -108,7 +110,14 @@ by-lawful state held (Wishes sort new wish) l = ((l.0.0, by wish l.0.1), stays-b
 by-lawful state held (Fails sort new cause) l = ((l.0.0, by cause l.0.1), tt)
   where
     by : (cause : Fail) → IsOwnCause one_to_one cause → IsOwnCause sort_by_shape cause
-    by cause o = o
+    by (fails.TextLimit n) o = o
+    by fails.HandsLimit o = o
+    by fails.TreeDepth o = o
+    by (fails.BracketIn port) o = o
+    by (fails.Unsorted port id) o = o
+    by (fails.Own own) o = o
+    by (fails.Unnested port) o = o
+    by fails.TurnLimit o = o
 
 sort-lawful : (state : SortState) (held : Held) (answer : Answer) → SortReady state held answer → SortIsLawful held (sort_next state held answer)
 sort-lawful state held answer r = (sort_lawful.obeys state held answer (sort_next state held answer) r refl, sort_lawful.stays_ready state held answer (sort_next state held answer) r refl)
@@ -157,19 +166,20 @@ receives state old held w r = ((w, omega arith), ((λ s. between held state.sort
     came_made (Gathering carrier) r text s = (came-two held (with_made held Normal text) (packet_of (next_id held) Normal text []) carrier r refl s, s)
     came_made (Emptying carrier bracket) r text s = absurd r
 
--- A packet that came is at the root, and leaves what was there before.
-at-root : (held : Held) (id : ℕ) (place : SortPlace) → HasCome held id place → IsAtRoot held.packets id
+-- A packet that came is at the root,
+pub at-root : (held : Held) (id : ℕ) (place : SortPlace) → HasCome held id place → IsAtRoot held.packets id
 at-root held id Idle h = HoldsOnly-root held id h
 at-root held id (Gathering carrier) h = two-root held carrier id h.0
 at-root held id (Emptying carrier bracket) h = absurd h
 
+-- and leaves what was there before.
 left : (held : Held) (id : ℕ) (place : SortPlace) → HasCome held id place → Rests (without_packet held id) place
 left held id Idle h = HoldsOnly-without held id h
 left held id (Gathering carrier) h = record { packet = h.0.first; holds = two-gone held carrier id h.0; named = h.0.first_named; older = h.0.older }
 left held id (Emptying carrier bracket) h = absurd h
 
 refused : (rests : Bool) (state : SortByState) (held : Held) (id : ℕ) → state.rests ≡ rests → HasCome held id state.sort.place → IsLawful state.rests held (refuses rests state held id)
-refused true state held id e h = ((comes_same held, (subst (λ b. IsTrue (used b 1)) (sym e) tt, at-root held id state.sort.place h)), λ s. has-sent (without_packet held id) state.sort.place (left held id state.sort.place h) s)
+refused true state held id e h = ((comes_same held, (subst (λ b. IsTrue (used b 1)) (sym e) refl, at-root held id state.sort.place h)), λ s. has-sent (without_packet held id) state.sort.place (left held id state.sort.place h) s)
 refused false state held id e h = receives state held (without_packet held id) (comes_dropped held id (at-root held id state.sort.place h)) (left held id state.sort.place h)
 
 taken : (b : Bool) (state : SortByState) (held : Held) (id : ℕ) → HasCome held id state.sort.place → IsLawful state.rests held (takes b state held id)
@@ -210,8 +220,7 @@ lawful state held (answers.Level n) r = absurd r
 
 -- Whether the second output is connected never changes.
 by-rests : (state : SortByState) (outcome : Outcome SortState) → (component_after (by_sort state outcome)).rests ≡ state.rests
-by-rests state (Wishes sort held wish) = refl
-by-rests state (Fails sort held cause) = refl
+by-rests state outcome = ap (λ (s : SortByState). s.rests) (component_after-as (λ sort. record state { sort = sort }) outcome)
 
 refused-rests : (rests : Bool) (state : SortByState) (held : Held) (id : ℕ) → (component_after (refuses rests state held id)).rests ≡ state.rests
 refused-rests true state held id = refl

@@ -4,6 +4,16 @@
 //! has the laws of what leaves them as whole streams.
 #![tactic(auto)]
 
+mod keys;
+mod meanings;
 mod order;
+mod sort_by;
+mod sorted;
 
+pub use meanings::{
+    sort_by_comes_to_one_outcome, sort_by_keeps_its_meaning, sorted_comes_to_one_outcome,
+    sorted_keeps_its_meaning, stable_sort_by_is_the_only_one,
+};
 pub use order::{KeyAs, Order, orders_are_preorders};
+pub use sort_by::SortBy;
+pub use sorted::Sorted;

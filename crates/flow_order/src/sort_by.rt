@@ -1,7 +1,7 @@
 //! The component that sorts the stretches of its stream by keys.
 
 ghost use Rattle.std.specs.Prelude.{◌≡◌, ◌<◌, None};
-ghost use Rattle.flow_packet.specs.Hands.{text_at};
+ghost use Rattle.flow_packet.specs.Hands.{IsAtRoot, kind_at, text_at};
 ghost use Rattle.flow_packet.specs.Held.{held_of};
 ghost use Rattle.flow_component.specs.Resumes.{Resumes};
 ghost use Rattle.flow_sort.specs.Sort.{Carries, HasCome, IsBetween};
@@ -44,7 +44,7 @@ impl Model for SortBy {
 }
 
 impl SortBy {
-    ghost use Rattle.flow_order.specs.SortBy.{ends_stretch, refuses, takes, brackets, ends, goes_on, HasSent};
+    ghost use Rattle.flow_order.specs.SortBy.{ends_stretch, refuses, takes, brackets, comes, ends, goes_on, HasSent};
 
     /// The component before its first packet; `rests` says whether its second output is connected.
     pub fn new(alloc: Global, key: Key, order: Order, rests: bool) -> SortBy
@@ -61,7 +61,7 @@ impl SortBy {
 
     // A packet without a place came.
     fn refuse(&mut self, hands: &mut Hands, packet: PacketId) -> Result<Wish, Stop>
-        requires come { HasCome (held_of hands.old) packet self.old.sort.place }
+        requires root { IsAtRoot hands.old.packets packet }
         ensures { Resumes (λ state held _ outcome. outcome ≡ refuses state.rests state held packet) self.old hands.old Answer.Sent result self.new hands.new }
     {
         if self.rests {
@@ -117,6 +117,19 @@ impl SortBy {
         }
     }
 
+    // A packet came.
+    fn come(&mut self, hands: &mut Hands, packet: PacketId) -> Result<Wish, Stop>
+        requires come { HasCome (held_of hands.old) packet self.old.sort.place }
+        requires room { hands.old.made < 4294967295 }
+        ensures { Resumes (λ state held _ outcome. outcome ≡ comes state held packet (kind_at held.packets packet)) self.old hands.old Answer.Sent result self.new hands.new }
+    {
+        match hands.kind(packet) {
+            Kind::Normal => self.take(hands, packet),
+            Kind::Open => self.bracket(hands, packet),
+            Kind::Close => self.bracket(hands, packet),
+        }
+    }
+
     // The stream has ended.
     fn finish(&mut self, hands: &mut Hands) -> Result<Wish, Stop>
         requires between { IsBetween (held_of hands.old) self.old.sort.place }
@@ -163,11 +176,7 @@ impl Component for SortBy {
     fn resume(&mut self, hands: &mut Hands, answer: Answer) -> Result<Wish, Stop> {
         match answer {
             Answer::Start => Ok(Wish::Receive(IN)),
-            Answer::Got(packet) => match hands.kind(packet) {
-                Kind::Normal => self.take(hands, packet),
-                Kind::Open => self.bracket(hands, packet),
-                Kind::Close => self.bracket(hands, packet),
-            },
+            Answer::Got(packet) => self.come(hands, packet),
             Answer::End => self.finish(hands),
             Answer::Sent => self.go_on(hands),
             Answer::Level(_) => unreachable!(),
