@@ -1,5 +1,5 @@
 -- Packets that are sorted by keys that were found of them are sorted by their keys.
-use Rattle.std.proofs.Common.{◌≡◌, ◌⊎◌, inl, inr, ℕ, suc, ◌<◌, Bool, true, false, not, ◌&&◌, cond, List, [], ◌∷◌, length, get_or, map, zip, refl, sym, ap, ◌∙◌, subst, arith}
+use Rattle.std.proofs.Common.{◌≡◌, ◌⊎◌, inl, inr, ℕ, zero, suc, Bool, true, false, not, ◌&&◌, cond, List, [], ◌∷◌, length, map, zip, refl, sym, ap, ◌∙◌, subst, arith}
 use Rattle.std.specs.Prelude.{All}
 use Rattle.std.specs.declared.cmp.Ordering.{Ordering}
 use Rattle.std.specs.Ordering.{is_lt}
@@ -44,15 +44,11 @@ module _ {K V : Type 0} (v : K → V) (key : Tree → V) where
   all-fit : (keys : List K) (ts : List Tree) → map v keys ≡ map key ts → All Fits (zip keys ts)
   all-fit [] ts e k d h = absurd (omega (arith, h))
   all-fit (x ∷ keys) [] e k d h = absurd (omega (arith, h))
-  all-fit (x ∷ keys) (t ∷ ts) e k d h =
+  all-fit (x ∷ keys) (t ∷ ts) e zero d h = let whole : v x ∷ map v keys ≡ key t ∷ map key ts = e in cc
+  all-fit (x ∷ keys) (t ∷ ts) e (suc k) d h =
       let whole : v x ∷ map v keys ≡ key t ∷ map key ts = e in
-      let first : v x ≡ key t = cc in
       let rest : map v keys ≡ map key ts = cc in
-      by k h first (all-fit keys ts rest)
-    where
-      by : (n : ℕ) → n < length ((x , t) ∷ zip keys ts) → v x ≡ key t → All Fits (zip keys ts) → Fits (get_or ((x , t) ∷ zip keys ts) n d)
-      by 0 l first all = first
-      by (suc n) l first all = all n d (omega (arith, l))
+      all-fit keys ts rest k d (omega (arith, h))
 
   module _ (lt : K × Tree → K × Tree → Bool) (less : Tree → Tree → Bool) (o : IsStrictWeakOrder lt) (w : IsStrictWeakOrder less)
     (agree : (p q : K × Tree) → Fits p → Fits q → lt p q ≡ less p.1 q.1) where
@@ -103,6 +99,9 @@ module _ {K V : Type 0} (v : K → V) (key : Tree → V) where
         by true false f g = sym (tie-along x y z e f) ∙ g
         by false true f g = sym (sym (tie-along y x z (turned x y e) g) ∙ f)
 
+    same-filter : (x y : Tree) → ties less x y ≡ true → (ts : List Tree) → filter (ties less x) ts ≡ filter (ties less y) ts
+    same-filter x y e ts = λ i. filter (λ z. same-tie x y z e i) ts
+
     -- Either none of the packets ties with this one, or one does, with a key.
     found : (x : Tree) (qs : List (K × Tree)) → All Fits qs → (filter (ties less x) (map (λ (r : K × Tree). r.1) qs) ≡ []) ⊎ ((p : K × Tree) × Fits p × (ties less x p.1 ≡ true))
     found x [] all = inl refl
@@ -122,8 +121,8 @@ module _ {K V : Type 0} (v : K → V) (key : Tree → V) where
       where
         at : (p : K × Tree) → Fits p → ties less x p.1 ≡ true → filter (ties less x) (map (λ (r : K × Tree). r.1) ps) ≡ filter (ties less x) (map (λ (r : K × Tree). r.1) qs)
         at p fit e =
-            (λ i. filter (λ z. same-tie x p.1 z e i) (map (λ (r : K × Tree). r.1) ps)) ∙ filters p fit ps f ∙ ap (map (λ (r : K × Tree). r.1)) (s p) ∙ sym (filters p fit qs g)
-            ∙ sym (λ i. filter (λ z. same-tie x p.1 z e i) (map (λ (r : K × Tree). r.1) qs))
+            same-filter x p.1 e (map (λ (r : K × Tree). r.1) ps) ∙ filters p fit ps f ∙ ap (map (λ (r : K × Tree). r.1)) (s p) ∙ sym (filters p fit qs g)
+            ∙ sym (same-filter x p.1 e (map (λ (r : K × Tree). r.1) qs))
 
         by : (filter (ties less x) (map (λ (r : K × Tree). r.1) ps) ≡ []) ⊎ ((p : K × Tree) × Fits p × (ties less x p.1 ≡ true)) → (filter (ties less x) (map (λ (r : K × Tree). r.1) qs) ≡ []) ⊎ ((p : K × Tree) × Fits p × (ties less x p.1 ≡ true))
             → filter (ties less x) (map (λ (r : K × Tree). r.1) ps) ≡ filter (ties less x) (map (λ (r : K × Tree). r.1) qs)

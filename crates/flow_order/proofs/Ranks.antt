@@ -58,25 +58,28 @@ preorders order = record {
   total = λ a b. either (order_cmp order) (order-total order) a b (order_cmp order a b) refl;
 }
 
+-- An order by its parts.
+abbrev order_of : KeyAs → Bool → Order
+order_of key_as down = record { key_as = key_as; down = down }
+
 -- Two orders with one spelling are one.
 pub one-spelling : (a b : Order) → spelled a ≡ spelled b → a ≡ b
 one-spelling a b e = by a.key_as a.down b.key_as b.down (ap length e)
   where
-    by : (k : KeyAs) (d : Bool) (l : KeyAs) (f : Bool) → length (spelled (record { key_as = k; down = d })) ≡ length (spelled (record { key_as = l; down = f }))
-        → (record { key_as = k; down = d }) ≡ (record { key_as = l; down = f })
+    by : (k : KeyAs) (d : Bool) (l : KeyAs) (f : Bool) → length (spelled (order_of k d)) ≡ length (spelled (order_of l f)) → order_of k d ≡ order_of l f
     by Bytes true Bytes true e = refl
-    by Bytes true Bytes false e = absurd (omega (arith, e))
-    by Bytes true Number true e = absurd (omega (arith, e))
-    by Bytes true Number false e = absurd (omega (arith, e))
-    by Bytes false Bytes true e = absurd (omega (arith, e))
+    by Bytes true Bytes false e = absurd (let h : 10 ≡ 5 = e in omega (arith, h))
+    by Bytes true Number true e = absurd (let h : 10 ≡ 11 = e in omega (arith, h))
+    by Bytes true Number false e = absurd (let h : 10 ≡ 6 = e in omega (arith, h))
+    by Bytes false Bytes true e = absurd (let h : 5 ≡ 10 = e in omega (arith, h))
     by Bytes false Bytes false e = refl
-    by Bytes false Number true e = absurd (omega (arith, e))
-    by Bytes false Number false e = absurd (omega (arith, e))
-    by Number true Bytes true e = absurd (omega (arith, e))
-    by Number true Bytes false e = absurd (omega (arith, e))
+    by Bytes false Number true e = absurd (let h : 5 ≡ 11 = e in omega (arith, h))
+    by Bytes false Number false e = absurd (let h : 5 ≡ 6 = e in omega (arith, h))
+    by Number true Bytes true e = absurd (let h : 11 ≡ 10 = e in omega (arith, h))
+    by Number true Bytes false e = absurd (let h : 11 ≡ 5 = e in omega (arith, h))
     by Number true Number true e = refl
-    by Number true Number false e = absurd (omega (arith, e))
-    by Number false Bytes true e = absurd (omega (arith, e))
-    by Number false Bytes false e = absurd (omega (arith, e))
-    by Number false Number true e = absurd (omega (arith, e))
+    by Number true Number false e = absurd (let h : 11 ≡ 6 = e in omega (arith, h))
+    by Number false Bytes true e = absurd (let h : 6 ≡ 10 = e in omega (arith, h))
+    by Number false Bytes false e = absurd (let h : 6 ≡ 5 = e in omega (arith, h))
+    by Number false Number true e = absurd (let h : 6 ≡ 11 = e in omega (arith, h))
     by Number false Number false e = refl

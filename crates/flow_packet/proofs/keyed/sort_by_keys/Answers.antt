@@ -17,7 +17,7 @@ part-requires-clause-room g c =
 pub returns-clause-ok : goal.returns-clause-ok
 returns-clause-ok g c =
     let cmp = g.K.Ord.cmp in
-    let ranks = ranks_by g.K.Ord.total (λ p. p.0) in
+    let ranks = ranks_by g.met.K.Ord.total (λ p. p.0) in
     let answers = always_returns_same _ (λ a r. is_lt r ≡ is_lt (cmp a.0.now.0 a.1.0.now.0)) _ (λ a r f' k. search rules) in
     let were = c.pair_up.ensures.pairs in
     let same = subst (λ ps. IsPermutation ps c.sort_by-sorted.new.self.items) were c.sort_by-sorted.ensures.permutation in
