@@ -103,17 +103,17 @@ module _ {K V : Type 0} (v : K → V) (key : Tree → V) where
     same-filter x y e ts = λ i. filter (λ z. same-tie x y z e i) ts
 
     -- Either none of the packets ties with this one, or one does, with a key.
-    found : (x : Tree) (qs : List (K × Tree)) → All Fits qs → (filter (ties less x) (map (λ (r : K × Tree). r.1) qs) ≡ []) ⊎ ((p : K × Tree) × Fits p × (ties less x p.1 ≡ true))
+    abbrev Found : Tree → List (K × Tree) → Type 0
+    Found x qs = (filter (ties less x) (map (λ (r : K × Tree). r.1) qs) ≡ []) ⊎ ((p : K × Tree) × Fits p × (ties less x p.1 ≡ true))
+
+    found : (x : Tree) (qs : List (K × Tree)) → All Fits qs → Found x qs
     found x [] all = inl refl
-    found x (q ∷ qs) all = by (ties less x q.1) refl
+    found x (q ∷ qs) all = by (ties less x q.1) refl (found x qs (tail q qs all))
       where
-        by : (b : Bool) → ties less x q.1 ≡ b → (filter (ties less x) (q.1 ∷ map (λ (r : K × Tree). r.1) qs) ≡ []) ⊎ ((p : K × Tree) × Fits p × (ties less x p.1 ≡ true))
-        by true e = inr (q, all 0 q (omega arith), e)
-        by false e = more (found x qs (tail q qs all))
-          where
-            more : (filter (ties less x) (map (λ (r : K × Tree). r.1) qs) ≡ []) ⊎ ((p : K × Tree) × Fits p × (ties less x p.1 ≡ true)) → (filter (ties less x) (q.1 ∷ map (λ (r : K × Tree). r.1) qs) ≡ []) ⊎ ((p : K × Tree) × Fits p × (ties less x p.1 ≡ true))
-            more (inl none) = inl (rw e none)
-            more (inr some) = inr some
+        by : (b : Bool) → ties less x q.1 ≡ b → Found x qs → Found x (q ∷ qs)
+        by true e more = inr (q, all 0 q (omega arith), e)
+        by false e (inl none) = inl (rw e none)
+        by false e (inr some) = inr some
 
     -- The packets that tie with one stand in both lists in one order, where those that tie with each pair do.
     stables : (ps qs : List (K × Tree)) → All Fits ps → All Fits qs → IsStableBy lt qs ps → IsStableBy less (map (λ (r : K × Tree). r.1) qs) (map (λ (r : K × Tree). r.1) ps)
@@ -124,8 +124,7 @@ module _ {K V : Type 0} (v : K → V) (key : Tree → V) where
             same-filter x p.1 e (map (λ (r : K × Tree). r.1) ps) ∙ filters p fit ps f ∙ ap (map (λ (r : K × Tree). r.1)) (s p) ∙ sym (filters p fit qs g)
             ∙ sym (same-filter x p.1 e (map (λ (r : K × Tree). r.1) qs))
 
-        by : (filter (ties less x) (map (λ (r : K × Tree). r.1) ps) ≡ []) ⊎ ((p : K × Tree) × Fits p × (ties less x p.1 ≡ true)) → (filter (ties less x) (map (λ (r : K × Tree). r.1) qs) ≡ []) ⊎ ((p : K × Tree) × Fits p × (ties less x p.1 ≡ true))
-            → filter (ties less x) (map (λ (r : K × Tree). r.1) ps) ≡ filter (ties less x) (map (λ (r : K × Tree). r.1) qs)
+        by : Found x ps → Found x qs → filter (ties less x) (map (λ (r : K × Tree). r.1) ps) ≡ filter (ties less x) (map (λ (r : K × Tree). r.1) qs)
         by (inr some) other = at some.0 some.1.0 some.1.1
         by (inl none) (inr some) = at some.0 some.1.0 some.1.1
         by (inl none) (inl nothing) = none ∙ sym nothing

@@ -1,5 +1,6 @@
 -- Orders are total, and each is spelled in its own way.
-use Rattle.std.proofs.Common.{◌≡◌, ◌⊎◌, inl, inr, ◌≢◌, ℕ, Bool, true, false, List, length, refl, sym, ap, ◌∙◌, arith, Some, None}
+use Rattle.std.proofs.Common.{◌≡◌, ◌⊎◌, inl, inr, ◌≢◌, ℕ, Bool, true, false, List, length, refl, sym, ap, ◌∙◌, arith, Option, Some, None}
+use Rattle.std.specs.Prelude.{◌↔◌}
 use Rattle.std.specs.declared.cmp.Ordering.{Ordering}
 use Rattle.std.specs.declared.cmp.Ordering.TheVariants.{Less, Equal, Greater}
 use Rattle.std.specs.Ordering.{ordering_reverse}
@@ -59,7 +60,7 @@ preorders order = record {
 }
 
 -- An order by its parts.
-abbrev order_of : KeyAs → Bool → Order
+abbrev pub order_of : KeyAs → Bool → Order
 order_of key_as down = record { key_as = key_as; down = down }
 
 -- Two orders with one spelling are one.
@@ -83,3 +84,18 @@ one-spelling a b e = by a.key_as a.down b.key_as b.down (ap length e)
     by Number false Bytes false e = absurd (let h : 6 ≡ 5 = e in omega (arith, h))
     by Number false Number true e = absurd (let h : 6 ≡ 11 = e in omega (arith, h))
     by Number false Number false e = refl
+
+-- The order that was found is the one that the text names.
+pub names-this : (text : List ℕ) (found : Order) → text ≡ spelled found → (order : Order) → (Some found ≡ Some order) ↔ (text ≡ spelled order)
+names-this text found e order = ((λ s. let same : found ≡ order = cc in e ∙ ap spelled same), (λ k. ap Some (one-spelling found order (sym e ∙ k))))
+
+-- A text that is the spelling of none names none.
+pub names-none : (text : List ℕ) → (text ≢ spelled (order_of Bytes false)) → (text ≢ spelled (order_of Bytes true)) → (text ≢ spelled (order_of Number false)) → (text ≢ spelled (order_of Number true))
+    → (order : Order) → (None ≡ Some order) ↔ (text ≡ spelled order)
+names-none text a b d e order = ((λ s. absurd (cc)), by order.key_as order.down)
+  where
+    by : (key_as : KeyAs) (down : Bool) → text ≡ spelled (order_of key_as down) → None ≡ Some (order_of key_as down)
+    by Bytes false k = absurd (a k)
+    by Bytes true k = absurd (b k)
+    by Number false k = absurd (d k)
+    by Number true k = absurd (e k)

@@ -34,6 +34,10 @@ pub record IsPassed (ranking : Ranking) (stream passed : List Tree) : Type 0 whe
 abbrev pub SortedMeaning : Type 0
 SortedMeaning = (ranking : Ranking) (told : List Happening) → EndedRun sorted_rules (record { ranking = ranking; last = None }) told → IsPassed ranking (got 0 told) (sent 0 told)
 
+-- What a SortBy sends to its first output is sorted.
+abbrev pub SortedPassesSorted : Type 0
+SortedPassesSorted = (ranking : Ranking) (stream : List Tree) → Ascends ranking (sorted_stretches ranking (filter (stays ranking) stream))
+
 -- The packets in the order of their keys are a stable sort of the packets, and there is no other.
 abbrev pub IsTheStableSort : Type 0
 IsTheStableSort = (ranking : Ranking) (before : List Tree) → IsStableSort ranking before (stable_sort ranking before) × ((after : List Tree) → IsStableSort ranking before after → after ≡ stable_sort ranking before)

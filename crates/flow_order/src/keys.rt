@@ -148,8 +148,9 @@ fn reversed<K: Drop>(alloc: Global, keys: Vec<K>) -> Result<Vec<Reverse<K>>, All
     ensures { IfOk result (λ turned. map (λ key. key.0) turned.items ≡ keys.items) }
 {
     let mut turned = Vec::with_capacity(alloc, keys.len())?;
-    for key in keys {
-        turned.push(Reverse(key))?;
+    let mut left = keys.into_iter();
+    while let Some(key) = left.next() {
+        turned.push_reserved(Reverse(key));
     }
     Ok(turned)
 }

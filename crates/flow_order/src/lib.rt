@@ -12,7 +12,7 @@ mod sorted;
 
 pub use meanings::{
     sort_by_comes_to_one_outcome, sort_by_keeps_its_meaning, sorted_comes_to_one_outcome,
-    sorted_keeps_its_meaning, stable_sort_by_is_the_only_one,
+    sorted_keeps_its_meaning, stable_sort_by_is_the_only_one, what_was_sorted_passes,
 };
 pub use order::{KeyAs, Order, orders_are_preorders};
 pub use sort_by::SortBy;

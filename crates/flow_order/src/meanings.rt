@@ -1,6 +1,6 @@
 //! What the components make of their streams: each law is the contract of a function that does nothing.
 ghost use Rattle.flow_component.specs.Laws.{AtMostOneOutcome};
-ghost use Rattle.flow_order.specs.Meanings.{SortByMeaning, SortedMeaning, IsTheStableSort};
+ghost use Rattle.flow_order.specs.Meanings.{SortByMeaning, SortedMeaning, SortedPassesSorted, IsTheStableSort};
 
 use crate::sort_by::SortBy;
 use crate::sorted::Sorted;
@@ -30,4 +30,9 @@ pub fn sort_by_keeps_its_meaning()
 /// What a Sorted that has come to its end has sent is what it got, and that is sorted.
 pub fn sorted_keeps_its_meaning()
     ensures { SortedMeaning }
+{}
+
+/// What a SortBy sends passes a Sorted with the same keys and the same order.
+pub fn what_was_sorted_passes()
+    ensures { SortedPassesSorted }
 {}

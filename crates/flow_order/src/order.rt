@@ -31,25 +31,25 @@ impl Order {
     pub fn parse(text: &[u8]) -> Option<Order>
         ensures { (order : Order) → (result ≡ Some order) ↔ (text.now ≡ spelled order) }
     {
-        if text == b"bytes" {
+        if text == b"bytes".as_slice() {
             return Some(Order {
                 key_as: KeyAs::Bytes,
                 down: false,
             });
         }
-        if text == b"bytes down" {
+        if text == b"bytes down".as_slice() {
             return Some(Order {
                 key_as: KeyAs::Bytes,
                 down: true,
             });
         }
-        if text == b"number" {
+        if text == b"number".as_slice() {
             return Some(Order {
                 key_as: KeyAs::Number,
                 down: false,
             });
         }
-        if text == b"number down" {
+        if text == b"number down".as_slice() {
             return Some(Order {
                 key_as: KeyAs::Number,
                 down: true,
