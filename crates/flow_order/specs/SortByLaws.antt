@@ -85,7 +85,7 @@ ready-by state sort held (answers.Level n) r = absurd r
 
 stays-by : (state : SortByState) (sort : SortState) (held : Held) (wish : Wish) → ReadyAfter (SortReady sort) held wish → ReadyAfter (SortByReady (record state { sort = sort })) held wish
 stays-by state sort held (wishes.Receive port) r =
-    ((λ s. ready-by state sort held answers.End (r.0 s)), ((λ t s. ready-by state sort (with_packet held t) (answers.Got (id_of t)) (r.1.0 t s)), (λ text s. ready-by state sort (with_made held Normal text) (answers.Got (next_id held)) (r.1.1 text s))))
+    ((λ s. ready-by state sort held answers.End (r.0 s)), (λ t s. ready-by state sort (with_packet held t) (answers.Got (id_of t)) (r.1 t s)), (λ text s. ready-by state sort (with_made held Normal text) (answers.Got (next_id held)) (r.2 text s)))
 stays-by state sort held (wishes.Send port id) r = λ s. ready-by state sort (without_packet held id) answers.Sent (r s)
 stays-by state sort held (wishes.Level port) r = λ n l s. ready-by state sort held (answers.Level n) (r n l s)
 stays-by state sort held wishes.Deactivate r = λ s. ready-by state sort held answers.Start (r s)
@@ -154,7 +154,7 @@ has-sent held (Emptying carrier bracket) r s = absurd r
 
 -- The Sort would be ready for whatever comes, since it would be so after it had received.
 receives : (state : SortByState) (old held : Held) → ComesBy old held → Rests held state.sort.place → IsLawful state.rests old (Wishes state held receive_first)
-receives state old held w r = ((w, omega arith), ((λ s. between held state.sort.place r s), ((λ t s. came state.sort.place r t s), (λ text s. came_made state.sort.place r text s))))
+receives state old held w r = ((w, omega arith), ((λ s. between held state.sort.place r s), (λ t s. came state.sort.place r t s), (λ text s. came_made state.sort.place r text s)))
   where
     came : (place : SortPlace) → Rests held place → (t : Tree) → Sound (with_packet held t) → HasCome (with_packet held t) (id_of t) place
     came Idle r t s = HoldsOnly-came held t r s
