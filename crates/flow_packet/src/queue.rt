@@ -4,8 +4,10 @@ ghost use Rattle.std.specs.Prelude.{◌≡◌, ◌+◌, ◌-◌, ◌^◌, ◌<�
 ghost use Rattle.flow_packet.specs.Tree.{all_ids, greatest};
 ghost use Rattle.flow_packet.specs.Bare.{IsBare, LeavesBare};
 ghost use Rattle.flow_packet.specs.Sorting.{sort_key, IsStableSort};
+ghost use Rattle.flow_packet.specs.Keyed.{IsSortedByKeys};
 
 use crate::id::PacketId;
+use crate::keyed::sort_by_keys;
 use crate::packet::{Kind, Packet};
 use std::alloc::{AllocError, Global};
 use std::marker::Model;
@@ -98,6 +100,17 @@ impl Queue {
         drop_taken(&mut self.packets, self.taken);
         self.taken = 0;
         sort_packets(&mut self.packets, bytes)
+    }
+
+    // Sorts stably by keys, one for each packet, in their order. Without memory all stay in place.
+    pub(crate) fn sort_by_keys<K: Ord + Drop>(&mut self, keys: Vec<K>) -> Result<(), AllocError>
+        requires one_each { length keys.items ≡ length self.old }
+        ensures ok { OnOk result (IsSortedByKeys K.cmp keys.items self.old self.new) }
+        ensures err { OnErr result (self.new ≡ self.old) }
+    {
+        drop_taken(&mut self.packets, self.taken);
+        self.taken = 0;
+        sort_by_keys(&mut self.packets, keys)
     }
 
     // Once half of the places are taken, and enough of them, the rest moves to the front at once.

@@ -1,3 +1,4 @@
 pub mod Stable
 pub mod Unloading
+pub mod Carriers
 pub mod SortStream

@@ -28,6 +28,7 @@ use Rattle.flow_sort.specs.Sorted.{put_in, stable_sort, leaves_with, stretch_aft
 use Rattle.flow_sort.specs.Sort.{SortState, passes, empties, unloads, sorts, ends_stretch, comes, ends, goes_on, HasCome, IsBetween, sort_rules}
 use Rattle.flow_sort.specs.SortLaws.{first-found, first-gone, first-detached, first-reordered, child-new, child-gone, wrapped-only, sorted-carries, carries-one, carries-two}
 use Rattle.flow_sort.specs.Meanings.{SortMeaning, fresh_sort}
+use Rattle.flow_sort.proofs.Carriers.{carrier_of, attach-carrier, detach-carrier, refill-carrier, id_of_bracket, behind, carrier-chain, map-last, two-are, later}
 
 -- Sorting contents
 
@@ -54,42 +55,6 @@ pub sort-content : (bytes : Option ℕ) (ts : List Tree) → stable_sort bytes (
 sort-content bytes [] = refl
 sort-content bytes (t ∷ ts) = ap (put_in bytes (content t)) (sort-content bytes ts) ∙ put-content bytes t (stable_sort bytes ts)
 
--- The carrier
-
-abbrev filled : List Tree → List Chain
-filled [] = []
-filled (t ∷ ts) = (items, t ∷ ts) ∷ []
-
-abbrev carrier_of : ℕ → List Tree → Tree
-carrier_of id ts = packet_of id Normal [] (filled ts)
-
-chains-carrier : (id : ℕ) (ts : List Tree) → chains_of (carrier_of id ts) ≡ filled ts
-chains-carrier id ts = from-to_chains (filled ts)
-
-chain-carrier : (id : ℕ) (ts : List Tree) → chain_at (chains_of (carrier_of id ts)) items ≡ ts
-chain-carrier id ts = ap (λ (cs : List Chain). chain_at cs items) (chains-carrier id ts) ∙ by ts
-  where
-    by : (us : List Tree) → chain_at (filled us) items ≡ us
-    by [] = refl
-    by (u ∷ us) = refl
-
-attach-carrier : (id : ℕ) (ts : List Tree) (t : Tree) → with_chains (carrier_of id ts) (attach_to (chains_of (carrier_of id ts)) items t) ≡ carrier_of id (ts ++ t ∷ [])
-attach-carrier id ts t = ap (λ (cs : List Chain). packet_of id Normal [] (attach_to cs items t)) (chains-carrier id ts) ∙ by ts
-  where
-    by : (us : List Tree) → packet_of id Normal [] (attach_to (filled us) items t) ≡ carrier_of id (us ++ t ∷ [])
-    by [] = refl
-    by (u ∷ us) = refl
-
-detach-carrier : (id : ℕ) (t : Tree) (ts : List Tree) → with_chains (carrier_of id (t ∷ ts)) (detach_from (chains_of (carrier_of id (t ∷ ts))) items) ≡ carrier_of id ts
-detach-carrier id t ts = ap (λ (cs : List Chain). packet_of id Normal [] (detach_from cs items)) (chains-carrier id (t ∷ ts)) ∙ by ts
-  where
-    by : (us : List Tree) → packet_of id Normal [] (detach_from (filled (t ∷ us)) items) ≡ carrier_of id us
-    by [] = refl
-    by (u ∷ us) = refl
-
-refill-carrier : (id : ℕ) (t : Tree) (ts : List Tree) (u : Tree) (us : List Tree) → with_chains (carrier_of id (t ∷ ts)) (refill (chains_of (carrier_of id (t ∷ ts))) items (u ∷ us)) ≡ carrier_of id (u ∷ us)
-refill-carrier id t ts u us = ap (λ (cs : List Chain). packet_of id Normal [] (refill cs items (u ∷ us))) (chains-carrier id (t ∷ ts))
-
 put-some : (bytes : Option ℕ) (t : Tree) (us : List Tree) → (x : Tree) × (xs : List Tree) × (put_in bytes t us ≡ x ∷ xs)
 put-some bytes t [] = (t, [], refl)
 put-some bytes t (u ∷ us) = by (is_less bytes u t) refl
@@ -97,19 +62,6 @@ put-some bytes t (u ∷ us) = by (is_less bytes u t) refl
     by : (b : Bool) → is_less bytes u t ≡ b → (x : Tree) × (xs : List Tree) × ((if b then u ∷ put_in bytes t us else t ∷ u ∷ us) ≡ x ∷ xs)
     by true e = (u, put_in bytes t us, refl)
     by false e = (t, u ∷ us, refl)
-
--- The packets behind the carrier
-
-abbrev id_of_bracket : Option Tree → Option ℕ
-id_of_bracket None = None
-id_of_bracket (Some t) = Some (id_of t)
-
-abbrev behind : Option Tree → List Tree
-behind None = []
-behind (Some t) = t ∷ []
-
-carrier-chain : (held : Held) (id : ℕ) (ts rest : List Tree) → held.packets ≡ carrier_of id ts ∷ rest → chain_of_root held.packets id items ≡ ts
-carrier-chain held id ts rest e = ap (λ (us : List Tree). chain_of_root us id items) e ∙ ap (λ o. chain_in o items) (first-found (carrier_of id ts) rest) ∙ chain-carrier id ts
 
 -- a stretch that is sorted in the carrier
 sorted-carrier : (bytes : Option ℕ) (held : Held) (id : ℕ) (t : Tree) (ts rest : List Tree) → held.packets ≡ carrier_of id (t ∷ ts) ∷ rest → (sorts bytes held id).packets ≡ carrier_of id (stable_sort bytes (t ∷ ts)) ∷ rest
@@ -234,10 +186,6 @@ comes-out bytes es m q state t held h Normal b i same c r rec = by (height_at he
 comes-out bytes es m q state t held h Open b i same c r rec = passes-out bytes es m q state t held h b i same c r rec
 comes-out bytes es m q state t held h Close b i same c r rec = passes-out bytes es m q state t held h b i same c r rec
 
-map-last : (ts : List Tree) (t : Tree) → map content (ts ++ t ∷ []) ≡ map content ts ++ content t ∷ []
-map-last [] t = refl
-map-last (u ∷ ts) t = ap (λ us. content u ∷ us) (map-last ts t)
-
 ends-in : (bytes : Option ℕ) (es : List Happening) (m q : Poise SortState) (state : SortState) (id : ℕ) (u : Tree) (us : List Tree) (t : Tree) (held : Held) (h : HoldsTwo held id (id_of t)) → state.bytes ≡ bytes
     → Sound held → h.first ≡ carrier_of id (u ∷ us) → h.second ≡ t → Wishes m.component m.held m.wish ≡ ends_stretch state held id (Some (id_of t)) → Runs sort_rules m es q → Rec bytes es q
     → sent 0 es ≡ (stable_sort bytes (map content (u ∷ us)) ++ content t ∷ []) ++ sorted_from bytes [] (got 0 es)
@@ -265,9 +213,6 @@ comes-in bytes es m q state id u us t held h Normal b i s first second c r rec =
         ∙ ap (λ (vs : List Tree). sorted_from bytes vs (got 0 es)) (map-last (u ∷ us) t)
 comes-in bytes es m q state id u us t held h Open b i s first second c r rec = ends-in bytes es m q state id u us t held h b s first second c r rec
 comes-in bytes es m q state id u us t held h Close b i s first second c r rec = ends-in bytes es m q state id u us t held h b s first second c r rec
-
-two-are : (held : Held) (u t : Tree) (id : ℕ) (h : HoldsTwo held id (id_of t)) → held.packets ≡ u ∷ t ∷ [] → (h.first ≡ u) × (h.second ≡ t)
-two-are held u t id h e = let s : h.first ∷ h.second ∷ [] ≡ u ∷ t ∷ [] = sym h.holds ∙ e in (cc, cc)
 
 -- What was sent is the packet that was on its way, and the others are left.
 was_sent : (p : Poise SortState) (held : Held) (port : ℕ) (t u : Tree) (left : List Tree) → Sends p u left → p.wish ≡ wishes.Send (record { 0 = port }) (id_of t) → packet_at p.held.packets (id_of t) ≡ Some t → held ≡ without_packet p.held (id_of t)
@@ -357,13 +302,6 @@ stops bytes p q Out st r d = refl
 stops bytes p q (In id u us) st r d = absurd (let h : receive_first ≡ wishes.Deactivate = sym st.1 ∙ ap (λ (k : Poise SortState). k.wish) (sym r) ∙ d in cc)
 stops bytes p q (Emptying id bracket u us) st r d = absurd (let h : send_first (id_of u) ≡ wishes.Deactivate = sym st.1.wish ∙ ap (λ (k : Poise SortState). k.wish) (sym r) ∙ d in cc)
 stops bytes p q (Passing u) st r d = absurd (let h : send_first (id_of u) ≡ wishes.Deactivate = sym st.1.wish ∙ ap (λ (k : Poise SortState). k.wish) (sym r) ∙ d in cc)
-
-later : (e : Happening) (es : List Happening) → EndIsLast 0 (e ∷ es) → EndIsLast 0 es
-later Started es l = l
-later (Received port t) es l = l
-later (Ended port) es l = l.1
-later (Sent port t) es l = l
-later (Learned port level) es l = l
 
 sort_run : (bytes : Option ℕ) (es : List Happening) (q : Poise SortState) → q.wish ≡ wishes.Deactivate → EndIsLast 0 es → Rec bytes es q
 sort_run bytes [] q d l p phase b st r = stops bytes p q phase st r d

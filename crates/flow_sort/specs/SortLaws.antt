@@ -91,7 +91,7 @@ few-behind : (bracket : Option ℕ) (behind : List Tree) → IsBehind bracket be
 few-behind None behind r = omega (arith, ap length r)
 few-behind (Some id) behind r = omega (arith, ap length r.1)
 
-few : (held : Held) (carrier : ℕ) (bracket : Option ℕ) → Carries held carrier bracket → length held.packets < HANDS_LIMIT
+pub few : (held : Held) (carrier : ℕ) (bracket : Option ℕ) → Carries held carrier bracket → length held.packets < HANDS_LIMIT
 few held carrier bracket h = omega (arith, ap length h.holds, few-behind bracket h.behind h.rest)
 
 -- hands with a carrier, once its chain is sorted
@@ -133,7 +133,7 @@ child-gone held root child children s is = without-last (detached held.packets r
 
 -- The laws
 
-abbrev IsLawful : Held → Outcome SortState → Type 0
+abbrev pub IsLawful : Held → Outcome SortState → Type 0
 IsLawful held outcome = Obeys one_to_one uses_first held outcome × StaysReady sort_rules outcome
 
 abbrev Rests : Held → SortPlace → Type 0
@@ -203,10 +203,10 @@ passes-lawful old held state (Some id) by r =
     ((by, (refl, at)), λ s. (λ i. without (only i) (sym r.2 i)) ∙ first-gone r.0 [])
 
 -- Whatever edits lead on from these hands lead on from the old ones.
-abbrev Leads : Held → Held → Type 0
+abbrev pub Leads : Held → Held → Type 0
 Leads old held = (new : Held) (edits : List Edit) → Edits held edits new → makes edits ≤ 1 → ComesBy old new
 
-empties-lawful : (old held : Held) (state : SortState) (carrier : ℕ) (bracket : Option ℕ) (chain : List Tree) → Leads old held → Carries held carrier bracket → chain_of_root held.packets carrier items ≡ chain
+pub empties-lawful : (old held : Held) (state : SortState) (carrier : ℕ) (bracket : Option ℕ) (chain : List Tree) → Leads old held → Carries held carrier bracket → chain_of_root held.packets carrier items ≡ chain
     → IsLawful old (empties state held carrier bracket chain)
 empties-lawful old held state carrier bracket [] lead h is =
     let new = without_packet held carrier in

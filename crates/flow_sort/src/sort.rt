@@ -57,6 +57,13 @@ impl Sort {
         }
     }
 
+    /// Where it stands.
+    pub fn place(&self) -> SortPlace
+        ensures { result ≡ self.now.place }
+    {
+        self.place
+    }
+
     // The first packet of a stretch comes.
     fn begin(&mut self, hands: &mut Hands, packet: PacketId) -> Result<Wish, Stop>
         requires alone { HoldsOnly (held_of hands.old) packet }
@@ -109,8 +116,9 @@ impl Sort {
         }
     }
 
-    // The next packet of the carrier is sent. With a spare place it takes no memory.
-    fn unload(
+    /// The next packet of the carrier is sent, or else what ended its stretch, without any more sorting. With a spare place
+    /// it takes no memory.
+    pub fn unload(
         &mut self,
         hands: &mut Hands,
         carrier: PacketId,

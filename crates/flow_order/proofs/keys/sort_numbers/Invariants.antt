@@ -1,0 +1,11 @@
+use Rattle.std.proofs.Common.{◌≡◌, map, take}
+use Rattle.flow_decimal.specs.Numbers.{number_in}
+use Rattle.flow_order.specs.Ranking.{sort_key}
+use Rattle.flow_order.proofs.keys.sort_numbers.Given as goal
+
+-- The keys of so many packets.
+abbrev pub invariant-loop-packet : goal.invariant-loop-packet
+invariant-loop-packet l = record {
+  same : l.key ≡ l.fn.key;
+  so_far : l.numbers.items ≡ map (λ packet. number_in (sort_key (record { pattern = l.fn.key; order = l.order }) packet)) (take l.packet-index l.packets);
+}

@@ -1,0 +1,9 @@
+pub mod Order
+pub mod OrderLaws
+pub mod Ranking
+pub mod Sorted
+pub mod SortBy
+pub mod SortByLaws
+pub mod Ascends
+pub mod AscendsLaws
+pub mod Meanings
