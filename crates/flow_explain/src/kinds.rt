@@ -10,6 +10,7 @@ use flow_limits::{FILE_NAME_LIMIT, LAST_ELEMENT};
 use flow_offer::table_of;
 use flow_parse::FIRST_VERSION;
 use flow_plan::{KindSpec, PortClass, PortSpec};
+use flow_summary::{SummaryName, SummaryNames};
 use std::alloc::{AllocError, Global};
 
 /// So many subnets of a file are named among the kinds.
@@ -240,6 +241,10 @@ pub fn put_option(page: &mut String, name: &Text, class: PortClass) -> Result<()
             " is a bound: one of > >= = != < <=, and a number behind it, as > 100.\n",
         ),
         PortClass::Whether => page.push_str(" is yes or no.\n"),
+        PortClass::Order => page.push_str(
+            " is bytes, number or letters, and maybe down behind it, as number down.\n",
+        ),
+        PortClass::Summary { names } => put_summary_rule(page, names),
         PortClass::Text => page.push_str(" is any text.\n"),
     }
 }
@@ -258,6 +263,34 @@ fn put_file_rule(page: &mut String) -> Result<(), AllocError> {
     )
 }
 
+fn put_summary_rule(page: &mut String, names: SummaryNames) -> Result<(), AllocError> {
+    page.push_str(" is a text in which these stand for what the texts come to:")?;
+    put_names(page, names)?;
+    page.push_str("; and $$ for a dollar.\n")
+}
+
+/// The names of a summary, each behind a blank and a dollar.
+pub fn put_names(page: &mut String, names: SummaryNames) -> Result<(), AllocError> {
+    for name in SummaryName::all() {
+        if names.has(*name) {
+            page.push_str(" $")?;
+            put_word(page, name.spelling())?;
+        }
+    }
+    Ok(())
+}
+
+// The first name that a summary may have, behind a dollar.
+fn put_first_name(page: &mut String, names: SummaryNames) -> Result<(), AllocError> {
+    match SummaryName::all().iter().find(|name| names.has(**name)) {
+        Some(name) => {
+            page.push('$')?;
+            put_word(page, name.spelling())
+        }
+        None => page.push_str("TEXT"),
+    }
+}
+
 /// A text that such an option may be, as an example.
 pub fn put_example(page: &mut String, class: PortClass) -> Result<(), AllocError> {
     match class {
@@ -272,6 +305,8 @@ pub fn put_example(page: &mut String, class: PortClass) -> Result<(), AllocError
         PortClass::Template { pattern: _ } => page.push_str("$1"),
         PortClass::Bound => page.push_str("> 100"),
         PortClass::Whether => page.push_str("yes"),
+        PortClass::Order => page.push_str("number down"),
+        PortClass::Summary { names } => put_first_name(page, names),
         PortClass::Text => page.push_str("TEXT"),
     }
 }

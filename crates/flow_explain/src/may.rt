@@ -2,7 +2,7 @@
 ghost use Rattle.flow_offer.specs.Kinds.{AreOwnKinds};
 
 use crate::found::{Found, Walk};
-use crate::kinds::{Side, port, row, table_for};
+use crate::kinds::{Side, port, put_names, row, table_for};
 use crate::pieces::is_line_end;
 use crate::said::{Mention, Tag};
 use flow_limits::STATEMENT_LIMIT;
@@ -164,6 +164,12 @@ fn put_class(page: &mut String, class: PortClass) -> Result<(), AllocError> {
         PortClass::Template { pattern: _ } => page.push_str(": a template"),
         PortClass::Bound => page.push_str(": a bound, as > 100"),
         PortClass::Whether => page.push_str(": yes or no"),
+        PortClass::Order => page.push_str(": bytes, number or letters, and maybe down behind it"),
+        PortClass::Summary { names } => {
+            page.push_str(": a text with")?;
+            put_names(page, names)?;
+            page.push_str(" in it")
+        }
         PortClass::Text => page.push_str(": any text"),
     }
 }

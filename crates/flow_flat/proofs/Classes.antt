@@ -1,6 +1,6 @@
 -- Whether a text is of a class can be decided.
 use Rattle.flow_limits.specs.declared.TheConstants.{PATTERN_LIMIT}
-use Rattle.std.proofs.Common.{◌≡◌, ◌≢◌, ℕ, ◌≤◌, Bool, true, false, List, [], ◌∷◌, length, zero, suc, Option, Some, None, Ok, Err, refl, sym, ◌∙◌, ◌⊎◌, inl, inr, arith}
+use Rattle.std.proofs.Common.{◌≡◌, ◌≢◌, ℕ, ◌≤◌, Bool, true, false, List, [], ◌∷◌, ◌++◌, length, zero, suc, Option, Some, None, Ok, Err, refl, sym, ap, ◌∙◌, ◌⊎◌, inl, inr, arith}
 use Rattle.std.specs.Prelude.{◌==◌, nat_le, slice_index_or, IsSomeAnd, codes}
 use Rattle.std.specs.List.{All, slice_split}
 use Rattle.std.specs.Char.{digit_value}
@@ -17,9 +17,10 @@ use Rattle.flow_decimal.specs.declared.bound.BoundStop.{BoundStop}
 use Rattle.flow_decimal.specs.Bounds.{bound_reading}
 use Rattle.flow_pattern.specs.Pattern.{pattern_options, reading}
 use Rattle.flow_plan.specs.declared.kind.PortClass.{PortClass}
-use Rattle.flow_plan.specs.declared.kind.PortClass.TheVariants.{Stream, Number, Fields, File, Pattern, Template, Bound, Whether, Text}
-use Rattle.flow_plan.specs.Texts.{IsNumberWithin, IsOfClass}
+use Rattle.flow_plan.specs.declared.kind.PortClass.TheVariants.{Stream, Number, Fields, File, Pattern, Template, Bound, Whether, Order, Summary, Text}
+use Rattle.flow_plan.specs.Texts.{IsNumberWithin, IsOrderWord, IsOrder, IsOfClass}
 use Rattle.flow_net.proofs.Places.{same_or_not}
+use Rattle.flow_summary.proofs.Decided.{decided}
 
 -- It holds or it doesn't.
 abbrev pub Dec : Type 0 → Type 0
@@ -105,6 +106,26 @@ dec_plain text = dec_and (dec_and (dec_le 1 (length text)) (dec_digits text)) (d
 dec_number : (least most : ℕ) (text : List ℕ) → Dec (IsNumberWithin least most text)
 dec_number least most text = dec_and3 (dec_plain text) (dec_le least (number_of text)) (dec_le (number_of text) most)
 
+dec_order_word : (word : List ℕ) → Dec (IsOrderWord word)
+dec_order_word word = dec_or (dec_bytes word (codes "bytes")) (dec_or (dec_bytes word (codes "number")) (dec_bytes word (codes "letters")))
+
+-- such a word with ` down` behind it
+abbrev IsDown : List ℕ → Type 0
+IsDown text = (word : List ℕ) × IsOrderWord word × (text ≡ word ++ codes " down")
+
+dec_down : (text : List ℕ) → Dec (IsDown text)
+dec_down text = by (dec_bytes text (codes "bytes down")) (dec_bytes text (codes "number down")) (dec_bytes text (codes "letters down")) where
+  by : Dec (text ≡ codes "bytes down") → Dec (text ≡ codes "number down") → Dec (text ≡ codes "letters down") → Dec (IsDown text)
+  by (inl is) number letters = inl (codes "bytes", inl refl, is)
+  by (inr bytes) (inl is) letters = inl (codes "number", inr (inl refl), is)
+  by (inr bytes) (inr number) (inl is) = inl (codes "letters", inr (inr refl), is)
+  by (inr bytes) (inr number) (inr letters) = inr (λ down.
+      let behind : (word : List ℕ) → down.0 ≡ word → text ≡ word ++ codes " down" = λ word same. down.2 ∙ ap (λ (w : List ℕ). w ++ codes " down") same in
+      elim down.1 [ inl is ↦ bytes (behind (codes "bytes") is) | inr other ↦ elim other [ inl is ↦ number (behind (codes "number") is) | inr is ↦ letters (behind (codes "letters") is) ] ])
+
+dec_order : (text : List ℕ) → Dec (IsOrder text)
+dec_order text = dec_or (dec_order_word text) (dec_down text)
+
 -- Whether a text is of a class can be decided.
 pub dec_class : (class : PortClass) (text : List ℕ) → Dec (IsOfClass class text)
 dec_class Stream text = inl tt
@@ -115,4 +136,6 @@ dec_class Pattern text = dec_and3 (dec_le (length text) PATTERN_LIMIT) (dec_utf8
 dec_class (Template pattern) text = inl tt
 dec_class Bound text = dec_bound (bound_reading text)
 dec_class Whether text = dec_or (dec_bytes text (codes "yes")) (dec_bytes text (codes "no"))
+dec_class Order text = dec_order text
+dec_class (Summary names) text = decided names text
 dec_class Text text = inl tt

@@ -1,12 +1,15 @@
 -- The page of the kinds. (This project's own.)
-use Rattle.std.specs.Prelude.{◌≡◌, ℕ, Bool, true, false, List, [], ◌∷◌, ◌++◌, codes}
+use Rattle.std.specs.Prelude.{◌≡◌, ℕ, if◌then◌else◌, Bool, true, false, List, [], ◌∷◌, ◌++◌, codes}
 use Rattle.std.specs.Fmt.{decimal}
 use Rattle.std.specs.List.{flat_map}
 use Rattle.flow_limits.specs.declared.TheConstants.{ELEMENT_LIMIT}
 use Rattle.flow_plan.specs.declared.kind.PortClass.{PortClass}
-use Rattle.flow_plan.specs.declared.kind.PortClass.TheVariants.{Stream, Number, Fields, File, Pattern, Template, Bound, Whether, Text}
+use Rattle.flow_plan.specs.declared.kind.PortClass.TheVariants.{Stream, Number, Fields, File, Pattern, Template, Bound, Whether, Order, Summary, Text}
 use Rattle.flow_plan.specs.declared.kind.PortSpec.{PortSpec}
 use Rattle.flow_plan.specs.declared.kind.KindSpec.{KindSpec}
+use Rattle.flow_summary.specs.declared.name.SummaryName.{SummaryName}
+use Rattle.flow_summary.specs.declared.name.SummaryNames.{SummaryNames}
+use Rattle.flow_summary.specs.Summaries.{all_names, is_in, spelling}
 use Rattle.flow_catalogue.specs.declared.table.StdKind.{StdKind}
 use Rattle.flow_catalogue.specs.Kinds.{spec_of, all_kinds}
 use Rattle.flow_kinds.specs.Purposes.{own_purpose, purpose_of}
@@ -19,6 +22,14 @@ role Input Stream = codes "input"
 role Output Stream = codes "output"
 role _ _ = codes "option"
 
+-- A name, where it is one of these, as it stands in a summary.
+abbrev pub name_text : SummaryNames → SummaryName → List ℕ
+name_text names name = if is_in names name then codes " $" ++ spelling name else []
+
+-- The names of a summary.
+abbrev pub names_text : SummaryNames → List ℕ
+names_text names = flat_map (name_text names) all_names
+
 -- What the text of an option may be. Of a port for packets nothing is said.
 abbrev pub range_text : PortClass → List ℕ
 range_text Stream = []
@@ -29,6 +40,8 @@ range_text Pattern = codes ": a pattern"
 range_text (Template pattern) = codes ": a template"
 range_text Bound = codes ": a bound, as > 100"
 range_text Whether = codes ": yes or no"
+range_text Order = codes ": bytes, number or letters, and maybe down behind it"
+range_text (Summary names) = codes ": a text with" ++ names_text names ++ codes " in it"
 range_text Text = codes ": any text"
 
 -- How many elements a port has, where it is an array.

@@ -1,10 +1,11 @@
 //! The lines of ports.
 ghost use Rattle.std.specs.Prelude.{◌≡◌, ◌++◌, OnOk};
 ghost use Rattle.std.specs.List.{flat_map};
-ghost use Rattle.flow_kinds.specs.Page.{elements_text, open_text, port_line, range_text, role};
+ghost use Rattle.flow_kinds.specs.Page.{elements_text, name_text, names_text, open_text, port_line, range_text, role};
 
 use flow_limits::ELEMENT_LIMIT;
 use flow_plan::{PortClass, PortSpec};
+use flow_summary::{SummaryName, SummaryNames};
 use flow_text::put_decimal;
 use std::alloc::AllocError;
 
@@ -75,6 +76,30 @@ fn put_open(page: &mut Vec<u8>, class: PortClass, needed: bool) -> Result<(), Al
     }
 }
 
+// The names that a summary may have.
+fn put_names(page: &mut Vec<u8>, names: SummaryNames) -> Result<(), AllocError>
+    ensures { OnOk result (page.new.items ≡ page.old.items ++ names_text names) }
+{
+    for name in SummaryName::all() {
+        put_name(page, names, *name)?;
+    }
+    Ok(())
+}
+
+fn put_name(
+    page: &mut Vec<u8>,
+    names: SummaryNames,
+    name: SummaryName,
+) -> Result<(), AllocError>
+    ensures { OnOk result (page.new.items ≡ page.old.items ++ name_text names name) }
+{
+    if !names.has(name) {
+        return Ok(());
+    }
+    page.extend_from_slice(b" $")?;
+    page.extend_from_slice(name.spelling())
+}
+
 // What the text of an option may be.
 fn put_range(page: &mut Vec<u8>, class: PortClass) -> Result<(), AllocError>
     ensures { OnOk result (page.new.items ≡ page.old.items ++ range_text class) }
@@ -95,6 +120,14 @@ fn put_range(page: &mut Vec<u8>, class: PortClass) -> Result<(), AllocError>
         PortClass::Template { pattern: _ } => page.extend_from_slice(b": a template"),
         PortClass::Bound => page.extend_from_slice(b": a bound, as > 100"),
         PortClass::Whether => page.extend_from_slice(b": yes or no"),
+        PortClass::Order => page.extend_from_slice(
+            b": bytes, number or letters, and maybe down behind it",
+        ),
+        PortClass::Summary { names } => {
+            page.extend_from_slice(b": a text with")?;
+            put_names(page, names)?;
+            page.extend_from_slice(b" in it")
+        }
         PortClass::Text => page.extend_from_slice(b": any text"),
     }
 }

@@ -1,7 +1,7 @@
 //! The texts that option ports take.
 ghost use Rattle.std.specs.Prelude.{◌≡◌, ◌≢◌, ◌≤◌, ◌==◌, ◌+◌, ◌<◌, ◌↔◌, length, IsTrue, count_by, position, IfOk, ◌∷◌, [], IfSome, IfNone, slice_get};
 ghost use Rattle.std.specs.List.{All, slice_split};
-ghost use Rattle.flow_plan.specs.Texts.{IsNumberWithin, IsFields, IsFileName, IsBound, IsWhether, IsOfClass};
+ghost use Rattle.flow_plan.specs.Texts.{IsNumberWithin, IsFields, IsFileName, IsBound, IsWhether, IsOrderWord, IsOrder, IsOfClass};
 ghost use Rattle.flow_net.specs.Options.{FitsPort};
 
 use crate::draft::{DraftPort, End};
@@ -9,6 +9,7 @@ use flow_decimal::Bound;
 use flow_limits::FILE_NAME_LIMIT;
 use flow_pattern::is_pattern;
 use flow_plan::PortClass;
+use flow_summary::is_summary;
 use flow_text::decimal;
 use std::alloc::{AllocError, Global};
 
@@ -89,6 +90,21 @@ fn is_whether(text: &[u8]) -> bool
     text == b"yes".as_slice() || text == b"no".as_slice()
 }
 
+fn is_order_word(word: &[u8]) -> bool
+    ensures { IsTrue result ↔ IsOrderWord word.now }
+{
+    word == b"bytes".as_slice() || word == b"number".as_slice() || word == b"letters".as_slice()
+}
+
+fn is_order(text: &[u8]) -> bool
+    ensures { IsTrue result ↔ IsOrder text.now }
+{
+    match text.strip_suffix(b" down") {
+        Some(word) => is_order_word(word),
+        None => is_order_word(text),
+    }
+}
+
 fn is_of_class(alloc: Global, class: PortClass, text: &[u8]) -> Result<bool, AllocError>
     ensures { IfOk result (λ is. IsTrue is ↔ IsOfClass class text.now) }
 {
@@ -101,6 +117,8 @@ fn is_of_class(alloc: Global, class: PortClass, text: &[u8]) -> Result<bool, All
         PortClass::Template { pattern: _ } => Ok(true),
         PortClass::Bound => Ok(is_bound(text)),
         PortClass::Whether => Ok(is_whether(text)),
+        PortClass::Order => Ok(is_order(text)),
+        PortClass::Summary { names } => Ok(is_summary(names, text)),
         PortClass::Text => Ok(true),
     }
 }

@@ -11,7 +11,7 @@ use Rattle.std.proofs.lemmas.Slice.Eq.{bytes_eq-Decides}
 use Rattle.flow_net.proofs.Ends.{and_true}
 use Rattle.flow_model.proofs.Leaving.{position-only}
 use Rattle.flow_plan.specs.declared.kind.PortClass.{PortClass}
-use Rattle.flow_plan.specs.declared.kind.PortClass.TheVariants.{Stream, Number, Fields, File, Pattern, Template, Bound, Whether, Text}
+use Rattle.flow_plan.specs.declared.kind.PortClass.TheVariants.{Stream, Number, Fields, File, Pattern, Template, Bound, Whether, Order, Summary, Text}
 use Rattle.flow_plan.specs.declared.kind.PortSpec.{PortSpec}
 use Rattle.flow_plan.specs.declared.kind.KindSpec.{KindSpec}
 use Rattle.flow_plan.specs.declared.plan.Process.{Process}
@@ -40,6 +40,8 @@ stream-is File is = absurd (false≢true is)
 stream-is (Template pattern) is = absurd (false≢true is)
 stream-is Bound is = absurd (false≢true is)
 stream-is Whether is = absurd (false≢true is)
+stream-is Order is = absurd (false≢true is)
+stream-is (Summary names) is = absurd (false≢true is)
 stream-is Pattern is = absurd (false≢true is)
 stream-is Text is = absurd (false≢true is)
 

@@ -4,7 +4,7 @@ use Rattle.std.specs.List.{flat_map, range_with_len}
 use Rattle.std.specs.Option.{option_and_then}
 use Rattle.std.specs.Fmt.{decimal}
 use Rattle.flow_plan.specs.declared.kind.PortClass.{PortClass}
-use Rattle.flow_plan.specs.declared.kind.PortClass.TheVariants.{Stream, Number, Fields, File, Pattern, Template, Bound, Whether, Text}
+use Rattle.flow_plan.specs.declared.kind.PortClass.TheVariants.{Stream, Number, Fields, File, Pattern, Template, Bound, Whether, Order, Summary, Text}
 use Rattle.flow_plan.specs.declared.kind.PortRef.{PortRef}
 use Rattle.flow_plan.specs.declared.plan.Process.{Process}
 use Rattle.flow_plan.specs.declared.plan.Connection.{Connection}
@@ -27,6 +27,8 @@ is_stream Pattern = false
 is_stream (Template pattern) = false
 is_stream Bound = false
 is_stream Whether = false
+is_stream Order = false
+is_stream (Summary names) = false
 is_stream Text = false
 
 -- The numbered elements of a port: of a stream array each by its number, of another stream port the port alone, of an option port none.

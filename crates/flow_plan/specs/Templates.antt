@@ -2,7 +2,7 @@
 use Rattle.std.specs.Prelude.{◌≡◌, ◌==◌, ℕ, suc, List, [], ◌∷◌, ◌++◌, Option, Some, None, find, option_map, slice_get}
 use Rattle.std.specs.List.{All}
 use Rattle.flow_plan.specs.declared.kind.PortClass.{PortClass}
-use Rattle.flow_plan.specs.declared.kind.PortClass.TheVariants.{Stream, Number, Fields, File, Pattern, Template, Bound, Whether, Text}
+use Rattle.flow_plan.specs.declared.kind.PortClass.TheVariants.{Stream, Number, Fields, File, Pattern, Template, Bound, Whether, Order, Summary, Text}
 use Rattle.flow_plan.specs.declared.plan.Process.{Process}
 use Rattle.flow_plan.specs.declared.plan.PortRow.{PortRow}
 use Rattle.flow_plan.specs.declared.plan.PortTable.{PortTable}

@@ -1,6 +1,6 @@
 -- The texts that option ports take.
 use Rattle.flow_limits.specs.declared.TheConstants.{FILE_NAME_LIMIT}
-use Rattle.std.specs.Prelude.{◌≡◌, ◌≢◌, ◌⊎◌, ℕ, ◌≤◌, ◌==◌, List, length, Option, Some, None, Ok, codes}
+use Rattle.std.specs.Prelude.{◌≡◌, ◌≢◌, ◌⊎◌, ℕ, ◌≤◌, ◌==◌, ◌++◌, List, length, Option, Some, None, Ok, codes}
 use Rattle.std.specs.List.{All, slice_split}
 use Rattle.std.specs.Str.{IsUtf8}
 use Rattle.flow_text.specs.Text.{IsPlain, number_of}
@@ -8,8 +8,9 @@ use Rattle.flow_decimal.specs.declared.bound.Bound.{Bound as NumberBound}
 use Rattle.flow_decimal.specs.Bounds.{bound_reading}
 use Rattle.flow_pattern.specs.Pattern.{IsPattern}
 use Rattle.flow_pattern.specs.Template.{IsTemplate}
+use Rattle.flow_summary.specs.Summaries.{IsSummary}
 use Rattle.flow_plan.specs.declared.kind.PortClass.{PortClass}
-use Rattle.flow_plan.specs.declared.kind.PortClass.TheVariants.{Stream, Number, Fields, File, Pattern, Template, Bound, Whether, Text}
+use Rattle.flow_plan.specs.declared.kind.PortClass.TheVariants.{Stream, Number, Fields, File, Pattern, Template, Bound, Whether, Order, Summary, Text}
 
 -- Decimal digits without a superfluous leading zero, for a number within these bounds.
 abbrev pub IsNumberWithin : ℕ → ℕ → List ℕ → Type 0
@@ -31,6 +32,14 @@ IsBound text = (bound : NumberBound) × (bound_reading text ≡ Ok bound)
 abbrev pub IsWhether : List ℕ → Type 0
 IsWhether text = (text ≡ codes "yes") ⊎ (text ≡ codes "no")
 
+-- A word that says by what texts are put into order.
+abbrev pub IsOrderWord : List ℕ → Type 0
+IsOrderWord word = (word ≡ codes "bytes") ⊎ (word ≡ codes "number") ⊎ (word ≡ codes "letters")
+
+-- Such a word, or one with a space and `down` behind it.
+abbrev pub IsOrder : List ℕ → Type 0
+IsOrder text = IsOrderWord text ⊎ ((word : List ℕ) × IsOrderWord word × (text ≡ word ++ codes " down"))
+
 -- The text is a template for the pattern that was given.
 abbrev pub IsTemplateFor : Option (List ℕ) → List ℕ → Type 0
 IsTemplateFor None text = ⊥
@@ -46,4 +55,6 @@ IsOfClass Pattern text = IsPattern text
 IsOfClass (Template pattern) text = Unit {0}
 IsOfClass Bound text = IsBound text
 IsOfClass Whether text = IsWhether text
+IsOfClass Order text = IsOrder text
+IsOfClass (Summary names) text = IsSummary names text
 IsOfClass Text text = Unit {0}

@@ -2,12 +2,14 @@
 ghost use Rattle.std.specs.Prelude.{◌≡◌, IfOk};
 
 use flow_items::{Items, Text};
+use flow_summary::SummaryNames;
 use std::alloc::{AllocError, Global};
 
 /// What a port carries. A stream port carries packets. An option port is given one text before the
 /// network runs: a decimal number within bounds, a list of field lengths, the name of a file, a
 /// pattern, a template for the pattern that the option port at another place of the kind's inputs is
-/// given, a bound on numbers, a word that says whether something is so, or any text.
+/// given, a bound on numbers, a word that says whether something is so, words that say by what texts are put into order, a
+/// summary with these names, or any text.
 #[derive(Clone, Copy, Debug, PartialEq, Eq)]
 pub enum PortClass {
     Stream,
@@ -18,6 +20,8 @@ pub enum PortClass {
     Template { pattern: u32 },
     Bound,
     Whether,
+    Order,
+    Summary { names: SummaryNames },
     Text,
 }
 

@@ -1,7 +1,7 @@
 //! The names that a summary has behind its dollars.
 
 ghost use Rattle.std.specs.Prelude.{◌≡◌, ◌&&◌, bytes_eq};
-ghost use Rattle.flow_summary.specs.Summaries.{called, is_in, spelling};
+ghost use Rattle.flow_summary.specs.Summaries.{all_names, called, is_in, spelling};
 
 /// What a name in a summary stands for.
 #[derive(Clone, Copy, Debug, PartialEq, Eq)]
@@ -37,7 +37,7 @@ pub struct SummaryNames {
     pub right: bool,
 }
 
-/// All names.
+// All names.
 const ALL: [SummaryName; 8] = [
     SummaryName::Sum,
     SummaryName::Count,
@@ -50,6 +50,13 @@ const ALL: [SummaryName; 8] = [
 ];
 
 impl SummaryName {
+    /// All names, in their order.
+    pub fn all() -> &'static [SummaryName]
+        ensures { result.now ≡ all_names }
+    {
+        &ALL
+    }
+
     /// How the name stands behind a dollar.
     pub fn spelling(self) -> &'static [u8]
         ensures { result.now ≡ spelling self }
