@@ -7,3 +7,4 @@ pub mod GroupRest
 pub mod GroupEnd
 pub mod RowLaws
 pub mod Undone
+pub mod Nesting

@@ -1,8 +1,9 @@
 -- What the components make of their streams, from their first state to their end. (The exact rules are this project's own.)
-use Rattle.std.specs.Prelude.{◌≡◌, ◌≢◌, ℕ, Bool, true, false, not, List, [], Option, filter}
+use Rattle.std.specs.Prelude.{◌≡◌, ◌≢◌, ℕ, Bool, true, false, not, List, [], Option, filter, map}
 use Rattle.flow_packet.specs.Tree.{Tree, kind_of}
 use Rattle.flow_component.specs.Happenings.{Happening}
 use Rattle.flow_component.specs.Runs.{EndedRun, EndIsLast, HeardEnd, got, sent}
+use Rattle.flow_bracket.specs.Substreams.{IsNested}
 use Rattle.flow_group.specs.Flat.{flat_rules, is_plain}
 use Rattle.flow_group.specs.Group.{group_rules, fresh_group}
 use Rattle.flow_group.specs.Rows.{Piece, ArePieces, pieces_of, grouped, stays}
@@ -45,3 +46,7 @@ pub record TheOnlyPieces : Type 0 where
 -- Without brackets, a stream with brackets round its rows is the Normal packets that have a key.
 abbrev pub FlatUndoesGroup : Type 0
 FlatUndoesGroup = (pattern : Option (List ℕ)) (stream : List Tree) → flattened (grouped pattern stream) ≡ filter (stays pattern) (flattened stream)
+
+-- The stream with brackets round its rows closes no substream that isn't open, where the stream itself closes none.
+abbrev pub GroupNests : Type 0
+GroupNests = (pattern : Option (List ℕ)) (stream : List Tree) → IsNested (map kind_of stream) → IsNested (map kind_of (grouped pattern stream))

@@ -12,6 +12,6 @@ pub use flat::Flat;
 pub use group::{Group, GroupPlace};
 pub use meanings::{
     flat_hears_the_end, flat_keeps_its_meaning, flat_undoes_group, group_hears_the_end,
-    group_keeps_its_meaning, rows_are_the_only_ones,
+    group_keeps_its_meaning, grouped_streams_are_nested, rows_are_the_only_ones,
 };
 pub use outcomes::each_comes_to_one_outcome;

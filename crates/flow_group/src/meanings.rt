@@ -1,5 +1,5 @@
 //! What the components make of their streams: each law is the contract of a function that does nothing.
-ghost use Rattle.flow_group.specs.Meanings.{FlatHears, FlatMeaning, FlatUndoesGroup, GroupHears, GroupMeaning, TheOnlyPieces};
+ghost use Rattle.flow_group.specs.Meanings.{FlatHears, FlatMeaning, FlatUndoesGroup, GroupHears, GroupMeaning, GroupNests, TheOnlyPieces};
 
 use crate::Flat;
 
@@ -19,6 +19,11 @@ pub fn group_hears_the_end()
 /// with one key stand side by side.
 pub fn rows_are_the_only_ones()
     ensures { TheOnlyPieces }
+{}
+
+/// Where the packets of a stream close no substream that isn't open, those with brackets round the rows close none either.
+pub fn grouped_streams_are_nested()
+    ensures { GroupNests }
 {}
 
 /// What a Flat that has come to its end has sent is its stream without the brackets.
