@@ -1,5 +1,5 @@
 -- The least and the most of numbers.
-use Rattle.std.proofs.Common.{◌≡◌, ◌⊎◌, ℕ, zero, suc, ◌<◌, Bool, true, false, List, [], ◌∷◌, ◌++◌, length, refl, sym, ap, ◌∙◌, subst, arith, inl, inr, if◌then◌else◌}
+use Rattle.std.proofs.Common.{◌≡◌, ◌⊎◌, zero, suc, Bool, true, false, List, [], ◌∷◌, refl, ap, ◌∙◌, arith, inl, inr, if◌then◌else◌}
 use Rattle.std.specs.Prelude.{All, Contains}
 use Rattle.std.specs.declared.cmp.Ordering.{Ordering}
 use Rattle.std.specs.declared.cmp.Ordering.TheVariants.{Less, Equal, Greater}
@@ -10,7 +10,7 @@ use Rattle.flow_decimal.specs.declared.decimal.Decimal.{Decimal}
 use Rattle.flow_decimal.specs.Order.{decimal_cmp_total}
 use Rattle.flow_decimal.specs.Values.{decimal_cmp}
 use Rattle.flow_sum.specs.Figures.{lesser, greater, least_of, most_of}
-use Rattle.flow_sum.specs.Laws.{IsLeast, IsMost, LeastIsLeast, MostIsMost}
+use Rattle.flow_sum.specs.Laws.{LeastIsLeast, MostIsMost}
 
 -- The first is no greater than the second.
 abbrev UpTo : Decimal → Decimal → Type 0

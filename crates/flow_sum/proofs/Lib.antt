@@ -1,4 +1,3 @@
-pub mod Drafting
 pub mod Writing
 pub mod Extremes
 pub mod ReckonerEnd

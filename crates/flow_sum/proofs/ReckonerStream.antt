@@ -1,6 +1,6 @@
 -- What a component that reckons sends is what is made of its stream.
 use Rattle.flow_limits.specs.declared.TheConstants.{TEXT_LIMIT}
-use Rattle.std.proofs.Common.{◌≡◌, ℕ, ◌==◌, ◌<◌, Bool, true, false, List, [], ◌∷◌, ◌++◌, length, Option, Some, None, nat_eq, nat_lt, cond, refl, sym, ap, ◌∙◌, subst, arith, append-nil, append_assoc, if◌then◌else◌}
+use Rattle.std.proofs.Common.{◌≡◌, ℕ, ◌==◌, Bool, true, false, List, [], ◌∷◌, ◌++◌, length, Option, Some, None, nat_eq, nat_lt, cond, refl, sym, ap, ◌∙◌, subst, arith, if◌then◌else◌}
 use Rattle.std.specs.Prelude.{not, filter}
 use Rattle.flow_packet.specs.declared.packet.Kind.{Kind}
 use Rattle.flow_packet.specs.declared.packet.Kind.TheVariants.{Normal, Open, Close}
@@ -20,8 +20,8 @@ use Rattle.flow_component.proofs.Streams.{Comes-packets, contents_in, made_at, c
 use Rattle.flow_sum.specs.declared.reckoner.ReckonerPlace.{ReckonerPlace}
 use Rattle.flow_sum.specs.declared.reckoner.ReckonerPlace.TheVariants.{Taking, Telling}
 use Rattle.flow_sum.specs.Round.{Round, key_in, round_behind}
-use Rattle.flow_sum.specs.Reckoning.{Reckoning, Reckoned, Verdict, Keeps, Passes, Becomes, Refuses, beginning, leaves, text_taken, ends, tells_then, closes_off, meets, goes_on, reckoner_next, reckoner_rules, IsTaking, IsBefore, IsReadyOn, IsReckoning}
-use Rattle.flow_sum.specs.Made.{Cut, cut_behind, stretches, inside, made_behind, made_of, told_packets, sent_for, sent_from, GoesOn, IsTaken, IsMade, is_left_as, is_left, ReckonerMeaning}
+use Rattle.flow_sum.specs.Reckoning.{Reckoning, Reckoned, Verdict, Keeps, Passes, Becomes, Refuses, beginning, leaves, text_taken, ends, tells_then, closes_off, meets, goes_on, reckoner_next, reckoner_rules, IsTaking, IsBefore, IsReckoning}
+use Rattle.flow_sum.specs.Made.{Cut, cut_behind, stretches, inside, made_behind, told_packets, sent_for, sent_from, GoesOn, IsTaken, IsMade, is_left_as, is_left, ReckonerMeaning}
 use Rattle.flow_sum.proofs.ReckonerEnd.{OneInput, one-input}
 
 -- a Normal packet stands in the first stretch

@@ -5,10 +5,11 @@ use Rattle.flow_sum.specs.declared.draft.Draft.{Draft}
 use Rattle.flow_sum.specs.declared.draft.Filled.{Filled}
 use Rattle.flow_sum.specs.declared.draft.Filled.TheVariants.{Text, TooLong}
 
--- What is kept of a text that is written so far: how many bytes it has, and the bytes themselves where a packet's text may have as many.
+-- What is kept of a text that is written so far: how many bytes it has, and the bytes themselves where a packet's text may have as many. More are never held.
 pub record IsDraft (whole : List ℕ) (draft : Draft) : Type 0 where
   pub counted : draft.count ≡ length whole
   pub kept : draft.count ≤ TEXT_LIMIT → draft.kept.items ≡ whole
+  pub held : length draft.kept.items ≤ TEXT_LIMIT
 
 -- A text is told as it is where a packet's text may be as long, and by its length alone where it is longer.
 abbrev pub IsFilled : List ℕ → Filled → Type 0

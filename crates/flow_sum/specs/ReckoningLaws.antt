@@ -19,7 +19,7 @@ use Rattle.flow_component.proofs.Lone.{HoldsOnly-without, HoldsOnly-root, HoldsO
 use Rattle.flow_sum.specs.declared.reckoner.ReckonerPlace.{ReckonerPlace}
 use Rattle.flow_sum.specs.declared.reckoner.ReckonerPlace.TheVariants.{Taking, Telling}
 use Rattle.flow_sum.specs.Round.{key_in}
-use Rattle.flow_sum.specs.Reckoning.{Reckoning, Reckoned, Verdict, Keeps, Passes, Becomes, Refuses, leaves, text_taken, text_came, ends, makes, tells_then, closes_off, meets, goes_on, reckoner_next, reckoner_shape, reckoner_uses, reckoner_rules, IsTaking, IsBefore, IsReadyOn, ReckonerReady, IsReckoning}
+use Rattle.flow_sum.specs.Reckoning.{Reckoning, Reckoned, Verdict, Keeps, Passes, Becomes, Refuses, leaves, text_taken, ends, tells_then, closes_off, meets, goes_on, reckoner_next, reckoner_shape, reckoner_uses, reckoner_rules, IsTaking, IsBefore, IsReadyOn, ReckonerReady, IsReckoning}
 
 module _ {K S : Type 0} (reckoning : Reckoning K S) (is : IsReckoning reckoning) where
   -- The work from these hands leads to a lawful outcome.

@@ -12,7 +12,7 @@ use Rattle.flow_sum.specs.Figures.{figures_of, added}
 use Rattle.flow_sum.specs.FigureLaws.{added_figures}
 use Rattle.flow_sum.specs.Found.{number_in, numbers_in}
 use Rattle.flow_sum.specs.Summary.{summary_text}
-use Rattle.flow_sum.specs.Reckoning.{Verdict, Keeps, Passes, Refuses, reckoner_shape, IsReckoning}
+use Rattle.flow_sum.specs.Reckoning.{Refuses, reckoner_shape, IsReckoning}
 use Rattle.flow_sum.specs.Made.{told_packets, sent_for, sent_from, GoesOn, IsTaken, IsMade}
 use Rattle.flow_sum.specs.Sum.{Summing, summed, sum_takes, sum_reckoning, numbered, sum_made}
 

@@ -1,6 +1,6 @@
 -- The reckoning of a Total is one, and what it makes of a stretch.
 use Rattle.flow_limits.specs.declared.TheConstants.{TEXT_LIMIT}
-use Rattle.std.proofs.Common.{◌≡◌, ℕ, Bool, true, false, List, [], ◌∷◌, ◌++◌, length, nat_lt, Option, Some, None, refl, sym, ap, ◌∙◌, subst, append-nil, append_assoc, if◌then◌else◌, cond}
+use Rattle.std.proofs.Common.{◌≡◌, ℕ, Bool, true, false, List, [], ◌∷◌, ◌++◌, length, nat_lt, Option, Some, None, refl, sym, ap, ◌∙◌, subst, append-nil, if◌then◌else◌, cond}
 use Rattle.std.specs.Prelude.{is_some, option_map}
 use Rattle.std.specs.List.{cons_option}
 use Rattle.flow_packet.specs.Tree.{Tree, text_of}
@@ -14,9 +14,9 @@ use Rattle.flow_sum.specs.Figures.{figures_of, added}
 use Rattle.flow_sum.specs.FigureLaws.{added_figures}
 use Rattle.flow_sum.specs.Found.{number_in, numbers_in}
 use Rattle.flow_sum.specs.Summary.{summary_text}
-use Rattle.flow_sum.specs.Reckoning.{Verdict, Becomes, Refuses, reckoner_shape, IsReckoning}
+use Rattle.flow_sum.specs.Reckoning.{Becomes, Refuses, reckoner_shape, IsReckoning}
 use Rattle.flow_sum.specs.Made.{told_packets, sent_for, sent_from, GoesOn, IsTaken, IsMade}
-use Rattle.flow_sum.specs.Total.{Totalling, becomes, totalled, total_takes, total_reckoning, total_at, totals_behind, total_made}
+use Rattle.flow_sum.specs.Total.{Totalling, totalled, total_takes, total_reckoning, totals_behind, total_made}
 
 -- Its failures
 
