@@ -125,8 +125,8 @@ module _ {K V : Type 0} (v : K → V) (key : Tree → V) where
             ∙ sym (same-filter x p.1 e (map (λ (r : K × Tree). r.1) qs))
 
         by : Found x ps → Found x qs → filter (ties less x) (map (λ (r : K × Tree). r.1) ps) ≡ filter (ties less x) (map (λ (r : K × Tree). r.1) qs)
-        by (inr some) other = at some.0 some.1.0 some.1.1
-        by (inl none) (inr some) = at some.0 some.1.0 some.1.1
+        by (inr some) other = at some.0 some.1 some.2
+        by (inl none) (inr some) = at some.0 some.1 some.2
         by (inl none) (inl nothing) = none ∙ sym nothing
 
 twice : {A B C : Type 0} (f : A → B) (g : B → C) (xs : List A) → map g (map f xs) ≡ map (λ x. g (f x)) xs

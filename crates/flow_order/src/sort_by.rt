@@ -2,8 +2,8 @@
 
 ghost use Rattle.std.specs.Prelude.{◌≡◌, ◌<◌, None};
 ghost use Rattle.flow_packet.specs.Hands.{IsAtRoot, kind_at, text_at};
-ghost use Rattle.flow_packet.specs.Held.{held_of};
-ghost use Rattle.flow_component.specs.Resumes.{Resumes};
+ghost use Rattle.flow_packet.specs.Held.{held_of, without_packet};
+ghost use Rattle.flow_component.specs.Resumes.{Resumes, dropped_count, drops_between};
 ghost use Rattle.flow_sort.specs.Sort.{Carries, HasCome, IsBetween};
 ghost use Rattle.flow_order.specs.Ranking.{stands};
 ghost use Rattle.flow_order.specs.SortBy.{SortByState};
@@ -43,6 +43,15 @@ impl Model for SortBy {
     ghost view = { λ s. record { ranking = record { pattern = s.key; order = s.order }; rests = s.rests; sort = s.sort } };
 }
 
+// Drops a packet, with all that hangs on it.
+fn drop_whole(hands: &mut Hands, packet: PacketId)
+    requires root { IsAtRoot hands.old.packets packet }
+    ensures left { held_of hands.new ≡ without_packet (held_of hands.old) packet }
+    ensures counted { hands.new.dropped ≡ dropped_count hands.old.dropped (drops_between (held_of hands.old) (held_of hands.new)) }
+{
+    hands.drop_packet(packet);
+}
+
 impl SortBy {
     ghost use Rattle.flow_order.specs.SortBy.{ends_stretch, refuses, takes, brackets, comes, ends, goes_on, HasSent};
 
@@ -67,7 +76,7 @@ impl SortBy {
         if self.rests {
             return Ok(Wish::Send(REST, packet));
         }
-        hands.drop_packet(packet);
+        drop_whole(hands, packet);
         Ok(Wish::Receive(IN))
     }
 

@@ -3,4 +3,4 @@ use Rattle.flow_order.specs.SortByLaws.{at-root}
 use Rattle.flow_order.proofs.sort_by.SortBy.come.Goals as goal
 
 pub kind-requires : goal.kind-requires
-kind-requires c = at-root (held_of c.args.hands.now) c.args.packet c.self.value.sort.place c.requires.come
+kind-requires c = at-root (held_of c.args.hands.now) c.args.packet c.args.self.now.sort.place c.requires.come
