@@ -238,7 +238,8 @@ run-tells before (e ∷ es) p q k w run =
     let r = run-tells (before ++ e ∷ []) es n q t.0 t.1 run.2 in
     (subst (λ (fs : List Happening). Keyed fs q.component) (append_assoc before (e ∷ []) es) r.0, r.1)
 
-run-manner : (es : List Happening) (p q : Poise JoinState) → Runs join_rules p es q → q.component.manner ≡ p.component.manner
+-- Its manner stays the same over a run.
+pub run-manner : (es : List Happening) (p q : Poise JoinState) → Runs join_rules p es q → q.component.manner ≡ p.component.manner
 run-manner [] p q run = ap (λ (u : Poise JoinState). u.component.manner) run
 run-manner (e ∷ es) p q run =
     let s = run.1 in

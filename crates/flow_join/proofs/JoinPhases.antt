@@ -88,7 +88,8 @@ module _ (m : Manner) where
     pub rights_so : m.sends_right ≡ true → sent 2 es ≡ rights
     pub rights_none : m.sends_right ≡ false → sent 2 es ≡ []
 
-  -- Of the left packets xs and the right ones ys, which are held or still come, it sends the pairs that are left and what has no partner, behind some that leave first.
+  -- Of the left packets xs and the right ones ys, which are held or still come, it sends the pairs that are left and what has no partner, behind some that
+  -- leave first.
   pub record Leads (before es : List Happening) (l r : Side) (s : Store) (xs ys : List Tree) (pairs lefts rights : List Tree) : Type 0 where
     pub sends : Sends es (pairs ++ drop s.paired (all_pairs m xs (grouped m s.group ++ ys))) (lefts ++ left_alone m xs (grouped m s.group ++ ys)) (rights ++ right_alone m xs ys)
     pub future : Future l r s es

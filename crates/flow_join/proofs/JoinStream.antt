@@ -22,7 +22,7 @@ use Rattle.flow_join.specs.Join.{lacks_left, gathers, compares, goes_so, goes_on
 use Rattle.flow_join.specs.JoinLaws.{apart-left, right-gone, IsKnown}
 use Rattle.flow_join.specs.Joined.{are_one, left_key_of, right_key_of, are_partners, all_pairs, left_alone, right_alone, is_below, IsJoined, AreJoinable, JoinMeaning, JoinIsSettled}
 use Rattle.flow_join.proofs.Orders.{order-same, order-itself, turned-less, not-below-other_left, one-itself}
-use Rattle.flow_join.proofs.Pairing.{NoLeft, NoRight, HaveKey, grouped, skip-pairs, skip-lefts, right-kept, right-taken, same-pairs, same-lefts}
+use Rattle.flow_join.proofs.Pairing.{NoLeft, NoRight, have-push, grouped, skip-pairs, skip-lefts, right-kept, right-taken, same-pairs, same-lefts}
 use Rattle.flow_join.proofs.JoinPhases.{Store, join_at, at_side, HeardSo, Step, Run, Comes_of, Leads, Good, Rec, Below, side-without, keyed-without}
 use Rattle.flow_join.proofs.JoinComing.{above-right, let-right, sends-same}
 use Rattle.flow_join.proofs.LeftComing.{waits-left}
@@ -46,10 +46,6 @@ none-left m xs y e = subst (λ (us : List Tree). NoLeft m us y) (sym e) tt
 
 grouped-push : (m : Manner) (texts : List (List ℕ)) (text : List ℕ) (ys : List Tree) → grouped m (texts ++ text ∷ []) ++ ys ≡ grouped m texts ++ text_packet text ∷ ys
 grouped-push m texts text ys = ap (λ (us : List Tree). us ++ ys) (map-append text_packet texts (text ∷ [])) ∙ append_assoc (grouped m texts) (text_packet text ∷ []) ys
-
-have-push : (m : Manner) (key : List ℕ) (texts : List (List ℕ)) (text : List ℕ) → HaveKey m key texts → key_of m.right_by text ≡ Some key → HaveKey m key (texts ++ text ∷ [])
-have-push m key [] text have e = (e, tt)
-have-push m key (t ∷ texts) text have e = (have.0, have-push m key texts text have.1 e)
 
 below-two : (P : ℕ → Type 0) → P 0 → P 1 → (i : ℕ) → i < 2 → P i
 below-two P a b zero l = a

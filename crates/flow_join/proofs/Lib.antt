@@ -9,3 +9,4 @@ pub mod JoinPairing
 pub mod JoinStream
 pub mod Spelling
 pub mod JoinFailing
+pub mod JoinHolding

@@ -118,6 +118,11 @@ module _ (m : Manner) where
   skip-group-lefts xs [] ys away = refl
   skip-group-lefts xs (text ∷ texts) ys away = skip-lefts xs (text_packet text) [] (grouped texts ++ ys) away.0 ∙ skip-group-lefts xs texts ys away.1
 
+-- A group with one more text of its key.
+pub have-push : (m : Manner) (key : List ℕ) (texts : List (List ℕ)) (text : List ℕ) → HaveKey m key texts → key_of m.right_by text ≡ Some key → HaveKey m key (texts ++ text ∷ [])
+have-push m key [] text have e = (e, tt)
+have-push m key (t ∷ texts) text have e = (have.0, have-push m key texts text have.1 e)
+
 -- What is left of a list behind some of it.
 pub drop-next : {A B : Type 0} (f : A → B) (n : ℕ) (fs : List A) (a : A) (rest : List A) (more : List B) → drop n fs ≡ a ∷ rest → drop n (map f fs ++ more) ≡ f a ∷ drop (suc n) (map f fs ++ more)
 drop-next f n [] a rest more e = absurd (none n e)

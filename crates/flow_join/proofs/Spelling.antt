@@ -5,7 +5,8 @@ use Rattle.std.proofs.lemmas.Option.{none-some, same_Some}
 use Rattle.flow_join.specs.declared.pairs.PairPart.{PairPart}
 use Rattle.flow_join.specs.Pairs.{first_part, Spells}
 
--- These parts are read of a text up to a place: with what the rest spells they are spelled by the whole, and the whole spells nothing that the rest doesn't end.
+-- These parts are read of a text up to a place: with what the rest spells they are spelled by the whole, and the whole spells nothing that the rest doesn't
+-- end.
 pub record IsReadUpTo (text : List ℕ) (parts : List PairPart) (place : ℕ) : Type 0 where
   pub spelled : (more : List PairPart) → Spells (drop place text) more → Spells text (parts ++ more)
   pub left : (all : List PairPart) → Spells text all → (more : List PairPart) × Spells (drop place text) more

@@ -29,8 +29,10 @@ IsCause manner told (fails.Unnested output) = ⊥
 IsCause manner told fails.TurnLimit = ⊥
 IsCause manner told (fails.Own cause) = ⊥
 
--- Where a Join fails at something that happens to it, it was told what it fails for: so two inputs that ascend and have no brackets never fail it, but for a pair that is too long.
+-- Where a Join fails at something that happens to it, it was told what it fails for: so two inputs that ascend and have no brackets never fail it, but for a
+-- pair that is too long.
 abbrev pub JoinFailsFor : Type 0
 JoinFailsFor = (manner : Manner) (maker : ℕ) (told : List Happening) (p : Poise JoinState) → Runs join_rules (fresh (fresh_join manner) maker) told p
     → (event : Happening) (held : Held) → Grants p.held p.wish event held → Sound held
-    → (state : JoinState) (after : Held) (cause : Fail) → join_next p.component held (answer_of event) ≡ Fails state after cause → IsCause manner (told ++ event ∷ []) cause
+    → (state : JoinState) (after : Held) (cause : Fail) → join_next p.component held (answer_of event) ≡ Fails state after cause
+    → IsCause manner (told ++ event ∷ []) cause

@@ -32,7 +32,8 @@ port_at n = record { 0 = n }
 abbrev pub receive_from : ℕ → Wish
 receive_from input = Receive (port_at input)
 
--- A packet that has no partner goes to the output with this number, where that is connected, and is dropped otherwise, after which the next one is received from its input.
+-- A packet that has no partner goes to the output with this number, where that is connected, and is dropped otherwise, after which the next one is received
+-- from its input.
 abbrev pub lets_go : Bool → JoinState → Held → ℕ → ℕ → ℕ → Outcome JoinState
 lets_go true state held id output input = Wishes state held (Send (port_at output) id)
 lets_go false state held id output input = Wishes state (without_packet held id) (receive_from input)
@@ -47,20 +48,28 @@ lacks_left state held id = lets_go state.manner.sends_right (record state { righ
 
 -- The right packet has the key of the left one: its text joins the group, and it is dropped.
 abbrev pub gathers : JoinState → Held → ℕ → Outcome JoinState
-gathers state held id = Wishes (record state { right = Waiting; group = state.group ++ text_at held.packets id ∷ [] }) (without_packet held id) (receive_from 1)
+gathers state held id =
+    Wishes (record state { right = Waiting; group = state.group ++ text_at held.packets id ∷ [] }) (without_packet held id) (receive_from 1)
 
 -- A packet with the text of a pair is made and sent. A text beyond the limit is a failure.
 abbrev pub makes_pair : JoinState → Held → List ℕ → Outcome JoinState
 makes_pair state held text =
-    if nat_lt TEXT_LIMIT (length text) then Fails state held (TextLimit (length text)) else Wishes (record state { paired = state.paired + 1 }) (with_made held Normal text) (send_first (next_id held))
+    if nat_lt TEXT_LIMIT (length text) then Fails state held (TextLimit (length text))
+    else Wishes (record state { paired = state.paired + 1 }) (with_made held Normal text) (send_first (next_id held))
 
 -- The left packet was paired with all of the group: it is dropped, or has no partner where there is no group.
 abbrev pub leaves_group : JoinState → Held → ℕ → Outcome JoinState
-leaves_group state held id = if length state.group == 0 then lacks_right state held id else Wishes (record state { left = Waiting; paired = 0 }) (without_packet held id) (receive_from 0)
+leaves_group state held id =
+    if length state.group == 0 then lacks_right state held id
+    else Wishes (record state { left = Waiting; paired = 0 }) (without_packet held id) (receive_from 0)
 
--- The text of the left packet's pair with the text of the group that comes next.
+-- The text of a pair of this left text with the text of the group that comes next.
+abbrev pub pair_with : JoinState → List ℕ → List ℕ
+pair_with state left = pair_text state.manner.parts (record { left = left; right = get_or state.group state.paired []; key = state.left_key })
+
+-- That of the left packet.
 abbrev pub next_pair : JoinState → Held → ℕ → List ℕ
-next_pair state held id = pair_text state.manner.parts (record { left = text_at held.packets id; right = get_or state.group state.paired []; key = state.left_key })
+next_pair state held id = pair_with state (text_at held.packets id)
 
 -- The group is whole: the left packet is paired with each of its texts in turn.
 abbrev pub pairs : JoinState → Held → ℕ → Outcome JoinState
@@ -72,7 +81,8 @@ compares state held left right Less = pairs state held left
 compares state held left right Equal = gathers state held right
 compares state held left right Greater = lacks_left state held right
 
--- What it does next, by where it stands at each input: it receives first what it waits for, the left input before the right one. An input that is over has no lesser key any more.
+-- What it does next, by where it stands at each input: it receives first what it waits for, the left input before the right one. An input that is over has no
+-- lesser key any more.
 abbrev pub goes_so : JoinState → Held → Side → Side → Outcome JoinState
 goes_so state held Waiting right = Wishes state held (receive_from 0)
 goes_so state held (Here left) Waiting = Wishes state held (receive_from 1)

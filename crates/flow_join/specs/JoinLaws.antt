@@ -169,7 +169,7 @@ let-right true state held id left is e f known h =
     ((comes_same held, (is, h.right_here)), λ s. (two-sides (λ l r. Holds l r (without held.packets id)) state left Waiting e f (right-gone left id held.packets h), Sound-new (without_packet held id) s))
 let-right false state held id left is e f known h = receives-right state.manner held (without_packet held id) state left (comes_dropped held id h.right_here) e f known (right-gone left id held.packets h)
 
-few-held : (left right : Side) → count_at left + count_at right ≤ 2
+pub few-held : (left right : Side) → count_at left + count_at right ≤ 2
 few-held Waiting Waiting = omega arith
 few-held Waiting (Here r) = omega arith
 few-held Waiting Over = omega arith

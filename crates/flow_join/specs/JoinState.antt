@@ -12,7 +12,8 @@ pub record Manner : Type 0 where
   pub sends_left : Bool
   pub sends_right : Bool
 
--- Where it stands at each input, and the last key that came there, which is empty before the first; the texts of the right input with the left key that came so far; and with how many of these the left text was paired.
+-- Where it stands at each input, and the last key that came there, which is empty before the first; the texts of the right input with the left key that came so
+-- far; and with how many of these the left text was paired.
 pub record JoinState : Type 0 where
   pub manner : Manner
   pub left : Side

@@ -19,10 +19,11 @@ are_one None b = false
 are_one (Some a) None = false
 are_one (Some a) (Some b) = bytes_eq a b
 
--- The key of a left packet, and that of a right one.
+-- The key of a left packet.
 abbrev pub left_key_of : Manner → Tree → Option (List ℕ)
 left_key_of manner packet = key_of manner.left_by (text_of packet)
 
+-- The key of a right packet.
 abbrev pub right_key_of : Manner → Tree → Option (List ℕ)
 right_key_of manner packet = key_of manner.right_by (text_of packet)
 
@@ -74,7 +75,8 @@ abbrev pub IsAscending : (Tree → Option (List ℕ)) → List Tree → Type 0
 IsAscending key [] = Unit {0}
 IsAscending key (packet ∷ packets) = AllByRecursion (λ later. is_below (key later) (key packet) ≡ false) packets × IsAscending key packets
 
--- What a Join makes of the left stream xs and the right stream ys: the pairs to its first output, and to each of the others, if that is connected, what has no partner.
+-- What a Join makes of the left stream xs and the right stream ys: the pairs to its first output, and to each of the others, if that is connected, what has no
+-- partner.
 pub record IsJoined (manner : Manner) (xs ys pairs lefts rights : List Tree) : Type 0 where
   pub pairs_all : pairs ≡ all_pairs manner xs ys
   pub lefts_alone : manner.sends_left ≡ true → lefts ≡ left_alone manner xs ys
@@ -89,7 +91,8 @@ pub record AreJoinable (manner : Manner) (xs ys : List Tree) : Type 0 where
   pub left_plain : AllByRecursion (λ x. kind_of x ≡ Normal) xs
   pub right_plain : AllByRecursion (λ y. kind_of y ≡ Normal) ys
 
--- A Join that has come to its end has got two streams that it takes, and sent what it makes of them; it was started once at most, and has heard the end of both inputs once it was started.
+-- A Join that has come to its end has got two streams that it takes, and sent what it makes of them; it was started once at most, and has heard the end of both
+-- inputs once it was started.
 abbrev pub JoinMeaning : Type 0
 JoinMeaning = (manner : Manner) (told : List Happening) → EndedRun join_rules (fresh_join manner) told → Wakes 2 [] told
     → IsJoined manner (got 0 told) (got 1 told) (sent 0 told) (sent 1 told) (sent 2 told) × AreJoinable manner (got 0 told) (got 1 told)
@@ -97,5 +100,6 @@ JoinMeaning = (manner : Manner) (told : List Happening) → EndedRun join_rules 
 
 -- What a Join sends is settled by what it got: two runs that got the same at each input sent the same at each output, whatever came first.
 abbrev pub JoinIsSettled : Type 0
-JoinIsSettled = (manner : Manner) (told other : List Happening) → EndedRun join_rules (fresh_join manner) told → EndedRun join_rules (fresh_join manner) other → Wakes 2 [] told → Wakes 2 [] other
-    → got 0 told ≡ got 0 other → got 1 told ≡ got 1 other → (sent 0 told ≡ sent 0 other) × (sent 1 told ≡ sent 1 other) × (sent 2 told ≡ sent 2 other)
+JoinIsSettled = (manner : Manner) (told other : List Happening) → EndedRun join_rules (fresh_join manner) told → EndedRun join_rules (fresh_join manner) other
+    → Wakes 2 [] told → Wakes 2 [] other → got 0 told ≡ got 0 other → got 1 told ≡ got 1 other
+    → (sent 0 told ≡ sent 0 other) × (sent 1 told ≡ sent 1 other) × (sent 2 told ≡ sent 2 other)

@@ -5,3 +5,4 @@ pub mod Join
 pub mod JoinLaws
 pub mod Joined
 pub mod Failing
+pub mod Holding

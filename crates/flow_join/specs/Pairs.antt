@@ -22,7 +22,8 @@ right_name = 114 ∷ 105 ∷ 103 ∷ 104 ∷ 116 ∷ []
 abbrev pub key_name : List ℕ
 key_name = 107 ∷ 101 ∷ 121 ∷ []
 
--- The part that a dollar begins, by what stands behind it, and how many bytes spell it with the dollar: `$$` stands for a dollar, and `$left`, `$right` and `$key` for what the pair has of that
+-- The part that a dollar begins, by what stands behind it, and how many bytes spell it with the dollar: `$$` stands for a dollar, and `$left`, `$right` and
+-- `$key` for what the pair has of that
 -- name, whatever stands behind it.
 abbrev pub dollar_part : List ℕ → Option (PairPart × ℕ)
 dollar_part rest =

@@ -1,14 +1,13 @@
 //! The component that joins two sorted inputs by their keys.
 
-ghost use Rattle.std.specs.Prelude.{◌≡◌, ◌<◌, ◌≤◌, [], Ok, get_or, length, IfErr, IfOk};
+ghost use Rattle.std.specs.Prelude.{◌≡◌, ◌<◌, ◌≤◌, [], Ok, length, IfErr, IfOk};
 ghost use Rattle.flow_limits.specs.declared.TheConstants.{HANDS_LIMIT, TEXT_LIMIT};
 ghost use Rattle.flow_packet.specs.Hands.{IsAtRoot, text_at};
 ghost use Rattle.flow_component.specs.Resumes.{Resumes};
-ghost use Rattle.flow_join.specs.Join.{Holds, HasCome, Waits, lacks_left, lacks_right, gathers, makes_pair, leaves_group, next_pair, pairs, compares, goes_so, goes_on, left_keyed, right_keyed, comes_at, ends_at, input_of};
+ghost use Rattle.flow_join.specs.Join.{Holds, HasCome, Waits, lacks_left, lacks_right, gathers, makes_pair, leaves_group, pair_with, next_pair, pairs, compares, goes_so, goes_on, left_keyed, right_keyed, comes_at, ends_at, input_of};
 ghost use Rattle.flow_join.specs.JoinState.{fresh_join};
 ghost use Rattle.flow_key.specs.Key.{key_of};
 ghost use Rattle.flow_join.specs.Keys.{key_order};
-ghost use Rattle.flow_join.specs.Pairs.{pair_text};
 
 use crate::pairs::PairTemplate;
 use crate::side::Side;
@@ -41,6 +40,14 @@ pub struct JoinManner {
     pub template: PairTemplate,
     pub sends_left: bool,
     pub sends_right: bool,
+}
+
+impl Model for JoinManner {
+    ghost use Rattle.flow_join.specs.JoinState.{Manner};
+
+    ghost Value = { Manner };
+
+    ghost view = { λ m. record { left_by = m.left_by; right_by = m.right_by; parts = m.template; sends_left = m.sends_left; sends_right = m.sends_right } };
 }
 
 /// Joins two inputs whose texts ascend by their keys, in the order of bytes.
@@ -77,7 +84,7 @@ impl Model for Join {
 impl Join {
     /// The component before its first packet. Takes no memory.
     pub fn new(alloc: Global, manner: JoinManner) -> Join
-        ensures { result ≡ fresh_join (record { left_by = manner.left_by; right_by = manner.right_by; parts = manner.template; sends_left = manner.sends_left; sends_right = manner.sends_right }) }
+        ensures { result ≡ fresh_join manner }
     {
         let JoinManner {
             left_by,
@@ -149,8 +156,8 @@ impl Join {
     // many.
     fn next_pair(&self, left: &[u8]) -> Result<Result<Vec<u8>, u64>, AllocError>
         requires within { self.now.paired < length self.now.group }
-        ensures text { IfOk result (λ told. IfOk told (λ text. (text.items ≡ pair_text self.now.manner.parts (record { left = left.now; right = get_or self.now.group self.now.paired []; key = self.now.left_key })) × (length text.items ≤ TEXT_LIMIT))) }
-        ensures long { IfOk result (λ told. IfErr told (λ count. (count ≡ length (pair_text self.now.manner.parts (record { left = left.now; right = get_or self.now.group self.now.paired []; key = self.now.left_key }))) × (TEXT_LIMIT < count))) }
+        ensures text { IfOk result (λ told. IfOk told (λ text. (text.items ≡ pair_with self.now left.now) × (length text.items ≤ TEXT_LIMIT))) }
+        ensures long { IfOk result (λ told. IfErr told (λ count. (count ≡ length (pair_with self.now left.now)) × (TEXT_LIMIT < count))) }
     {
         let right = self.group.as_slice()[self.paired].as_slice();
         let key = self.left_key.as_slice();

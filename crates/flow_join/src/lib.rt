@@ -10,7 +10,9 @@ mod pairs;
 mod side;
 
 pub use join::{Join, JoinManner};
-pub use meanings::{join_fails_for_a_cause, join_is_settled, join_keeps_its_meaning};
+pub use meanings::{
+    join_fails_for_a_cause, join_holds_one_key, join_is_settled, join_keeps_its_meaning,
+};
 pub use outcomes::join_comes_to_one_outcome;
 pub use pairs::{PairPart, PairTemplate};
 pub use side::Side;

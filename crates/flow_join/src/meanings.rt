@@ -1,5 +1,6 @@
 //! What a Join makes of its streams: each law is the contract of a function that does nothing.
 ghost use Rattle.flow_join.specs.Failing.{JoinFailsFor};
+ghost use Rattle.flow_join.specs.Holding.{JoinHoldsOneKey};
 ghost use Rattle.flow_join.specs.Joined.{JoinIsSettled, JoinMeaning};
 
 /// A Join that has come to its end has got two streams without brackets that ascend by their keys. It has sent to its first
@@ -18,4 +19,9 @@ pub fn join_is_settled()
 /// long.
 pub fn join_fails_for_a_cause()
     ensures { JoinFailsFor }
+{}
+
+/// Whatever it was told, a Join keeps right texts of one key, and holds three packets at most.
+pub fn join_holds_one_key()
+    ensures { JoinHoldsOneKey }
 {}

@@ -1,9 +1,8 @@
-use Rattle.std.proofs.Common.{◌≡◌, ℕ, List, [], get_or, ap, ◌∙◌}
+use Rattle.std.proofs.Common.{◌≡◌, ap, ◌∙◌}
 use Rattle.flow_packet.specs.Held.{held_of}
 use Rattle.flow_component.specs.declared.Answer.TheVariants.{Sent}
 use Rattle.flow_component.proofs.Dropping.{Resumes-weaker}
-use Rattle.flow_join.specs.Pairs.{pair_text}
-use Rattle.flow_join.specs.Join.{makes_pair, next_pair}
+use Rattle.flow_join.specs.Join.{makes_pair, pair_with, next_pair}
 use Rattle.flow_join.proofs.join.Join.make_pair.Goals as goal
 
 pub returns-in-Ok-Ok : goal.returns-in-Ok-Ok
@@ -11,6 +10,6 @@ returns-in-Ok-Ok c =
     let state = c.args.self.now in
     let held = held_of c.args.hands.now in
     let told = rw c.in-Ok-Ok.field-0-is at c.in-Ok-Ok.ensures.text in
-    let is : c.in-Ok-Ok.text.items ≡ next_pair state held c.args.packet = told.0 ∙ ap (λ (left : List ℕ). pair_text state.manner.parts (record { left = left; right = get_or state.group state.paired []; key = state.left_key })) c.text.ensures.text in
+    let is : c.in-Ok-Ok.text.items ≡ next_pair state held c.args.packet = told.0 ∙ ap (pair_with state) c.text.ensures.text in
     Resumes-weaker (λ s h x o. o ≡ makes_pair s h c.in-Ok-Ok.text.items) (λ s h x o. o ≡ makes_pair s h (next_pair s h c.args.packet)) state c.args.hands.now Sent Sent c.send_pair.result c.send_pair.new.self c.send_pair.new.hands
     (λ outcome r. r ∙ ap (makes_pair state held) is) c.send_pair.ensures
