@@ -3,6 +3,7 @@ mod Tables
 mod Rows
 mod Templates
 pub mod OptionTexts
+pub mod Versions
 mod Standards
 pub mod Connected
 mod Firsts

@@ -8,12 +8,16 @@ use Rattle.flow_plan.specs.Valid.{IsValid}
 use Rattle.flow_net.specs.Over.{IsOver, IsOfKind as IsOfKindOf, carries}
 use Rattle.flow_catalogue.specs.Rows.{IsCount, count_on}
 use Rattle.flow_catalogue.specs.declared.table.StdKind.{StdKind}
-use Rattle.flow_catalogue.specs.Kinds.{std_kinds}
+use Rattle.flow_catalogue.specs.Kinds.{std_kinds_of}
 use Rattle.flow_catalogue.specs.Processes.{IsStandard, IsOfKind, Fits, first_component, given}
 
--- In a valid plan over the standard kinds each process is a standard one.
+-- A plan over the standard kinds of a version.
+abbrev pub IsOverStandard : Network → Type 0
+IsOverStandard plan = (version : ℕ) × IsOver (std_kinds_of version) plan
+
+-- In a valid one each process is a standard one.
 abbrev pub OverIsStandard : Type 0
-OverIsStandard = (plan : Network) → IsValid plan → IsOver std_kinds plan → (p : ℕ) → p < length plan.processes → IsStandard plan p
+OverIsStandard = (plan : Network) → IsValid plan → IsOverStandard plan → (p : ℕ) → p < length plan.processes → IsStandard plan p
 
 -- Process p is of a kind of this table, and has as many inputs and outputs as the kind's ports say.
 pub record IsOfTable (kinds : List KindSpec) (network : Network) (p : ℕ) : Type 0 where
@@ -25,9 +29,9 @@ pub record IsOfTable (kinds : List KindSpec) (network : Network) (p : ℕ) : Typ
   pub inputs : IsCount (count_on is_of_kind.kind.inputs) process.inputs
   pub outputs : IsCount (count_on (map carries is_of_kind.kind.outputs)) process.outputs
 
--- In a valid plan over a table that begins with the standard kinds each process is a standard one, or of a kind behind them.
+-- In a valid plan over a table that begins with the standard kinds of a version each process is a standard one, or of a kind behind them.
 abbrev pub OverIsStandardOrMore : Type 0
-OverIsStandardOrMore = (more : List KindSpec) (plan : Network) → IsValid plan → IsOver (std_kinds ++ more) plan → (p : ℕ) → p < length plan.processes → IsStandard plan p ⊎ IsOfTable more plan p
+OverIsStandardOrMore = (version : ℕ) (more : List KindSpec) (plan : Network) → IsValid plan → IsOver (std_kinds_of version ++ more) plan → (p : ℕ) → p < length plan.processes → IsStandard plan p ⊎ IsOfTable more plan p
 
 -- What a process of a standard kind makes in its first state fits it.
 abbrev pub FirstFits : Type 0

@@ -39,17 +39,18 @@ use Rattle.flow_catalogue.specs.declared.table.StdKind.TheVariants as kinds
 use Rattle.flow_catalogue.specs.declared.standard.Std.{Std}
 use Rattle.flow_catalogue.specs.declared.standard.Std.TheVariants as components
 use Rattle.flow_catalogue.specs.Rows.{IsCount, count_on, HasOptions, option_at, needs}
-use Rattle.flow_catalogue.specs.Kinds.{name_of, spec_of}
+use Rattle.flow_catalogue.specs.Kinds.{name_of, spec_in}
 use Rattle.flow_catalogue.specs.Std.{std_shape, std_uses, StdReady}
 
--- Process p of the network is of this kind: it has the kind's name, the options that the kind's row asks for, as many inputs and outputs as the row says, and a
--- connection at each output that needs one.
+-- Process p of the network is of this kind as network files of a version have it: it has the kind's name, the options that the kind's ports ask for, as many inputs and
+-- outputs as these say, and a connection at each output that needs one.
 pub record IsOfKind (network : Network) (p : ℕ) (process : Process) (kind : StdKind) : Type 0 where
+  pub version : ℕ
   pub named : process.kind ≡ name_of kind
-  pub options : HasOptions (spec_of kind).inputs process.options
-  pub inputs : IsCount (count_on (spec_of kind).inputs) process.inputs
-  pub outputs : IsCount (count_on (map carries (spec_of kind).outputs)) process.outputs
-  pub needed : (o : ℕ) → slice_get (needs (map carries (spec_of kind).outputs) process.outputs) o ≡ Some true → HasSender network p o
+  pub options : HasOptions (spec_in version kind).inputs process.options
+  pub inputs : IsCount (count_on (spec_in version kind).inputs) process.inputs
+  pub outputs : IsCount (count_on (map carries (spec_in version kind).outputs)) process.outputs
+  pub needed : (o : ℕ) → slice_get (needs (map carries (spec_in version kind).outputs) process.outputs) o ≡ Some true → HasSender network p o
 
 -- The plan has a process of this number, which is of a standard kind.
 pub record IsStandard (network : Network) (number : ℕ) : Type 0 where

@@ -1,7 +1,8 @@
 //! The table of the standard kinds.
 
-ghost use Rattle.std.specs.Prelude.{◌≡◌, ◌≢◌, IfOk, MatchOption};
-ghost use Rattle.flow_catalogue.specs.Kinds.{name_of, since, spec_of, std_kinds, std_kinds_of};
+ghost use Rattle.std.specs.Prelude.{◌≡◌, ◌≢◌, ◌∷◌, ℕ, [], IfOk, MatchOption, codes};
+ghost use Rattle.flow_catalogue.specs.Kinds.{name_of, row, since, spec_in, spec_of, std_kinds, std_kinds_of};
+ghost use Rattle.flow_catalogue.specs.Rows.{option_port, optional_option_port, stream_port, array_port, optional_port};
 
 use crate::row::{
     array, counting, ending, kind, option, optional, optional_option, passing, spreading, stream,
@@ -9,6 +10,9 @@ use crate::row::{
 use flow_limits::TEXT_LIMIT;
 use flow_plan::{KindSpec, PortClass};
 use std::alloc::{AllocError, Global};
+
+/// The last version of network files that has kinds or ports which earlier ones haven't.
+pub const LAST_VERSION: u32 = 3;
 
 /// The kinds of the standard components.
 #[derive(Clone, Copy, PartialEq, Eq, Debug)]
@@ -350,9 +354,9 @@ fn grouping(alloc: Global) -> Result<KindSpec, AllocError>
     kind(alloc, b"Group", inputs, vec![in alloc; output, rest]?)
 }
 
-// The row of a kind.
+// A kind with its ports, which are the same in each version.
 fn spec(alloc: Global, kind: StdKind) -> Result<KindSpec, AllocError>
-    ensures { IfOk result (λ spec. spec ≡ spec_of kind) }
+    ensures { IfOk result (λ spec. (version : ℕ) → spec ≡ spec_in version kind) }
 {
     match kind {
         StdKind::ReadLines => read_lines(alloc),
@@ -389,7 +393,7 @@ fn spec(alloc: Global, kind: StdKind) -> Result<KindSpec, AllocError>
     }
 }
 
-/// The table of the standard kinds, with their ports.
+/// The table of the standard kinds, with all their ports.
 pub fn kinds(alloc: Global) -> Result<Vec<KindSpec>, AllocError>
     ensures { IfOk result (λ kinds. kinds.items ≡ std_kinds) }
 {
@@ -400,7 +404,7 @@ pub fn kinds(alloc: Global) -> Result<Vec<KindSpec>, AllocError>
     Ok(specs)
 }
 
-/// The part of the table that network files of a version may name.
+/// The table for network files of a version: the kinds that they may name, with the ports that these have there.
 pub fn kinds_of(alloc: Global, version: u32) -> Result<Vec<KindSpec>, AllocError>
     ensures { IfOk result (λ kinds. kinds.items ≡ std_kinds_of version) }
 {

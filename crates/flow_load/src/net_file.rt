@@ -4,9 +4,7 @@ ghost use Rattle.flow_load.specs.Networks.{ReadsAs};
 
 use crate::stop::{NetRefusal, Stop};
 use flow_expand::{ExpandStop, expand};
-use flow_offer::{
-    a_table_of_a_version_is_within, own_kinds_make_a_table_of_each_version, table_of,
-};
+use flow_offer::{own_kinds_make_a_table_of_each_version, table_of};
 use flow_parse::{NetText, ParseStop, parse};
 use flow_plan::{KindSpec, Plan};
 use std::alloc::Global;
@@ -24,7 +22,6 @@ pub fn network(alloc: Global, net: &[u8], own: &[KindSpec]) -> Result<NetFile, S
     ensures { ReadsAs own.now net.now result }
 {
     own_kinds_make_a_table_of_each_version();
-    a_table_of_a_version_is_within();
     let text = match parse(alloc, net) {
         Ok(text) => text,
         Err(ParseStop::Fault(fault)) => return Err(Stop::Refused(NetRefusal::Line(fault))),

@@ -142,7 +142,7 @@ place-read own plan p processes process name place same read lt named is =
 -- Each process is of a standard kind, or of one of the caller's own.
 pub each-standard-or-own : OverIsStandardOrMore → EachIsStandardOrOwn
 each-standard-or-own law own plan offered p lt =
-    elim (law own plan offered.valid offered.over p lt) [
+    elim (law offered.version own plan offered.valid offered.over p lt) [
       | inl standard ↦ subst (IsStandardOrOwn own plan p) (sym (place-at own plan p standard.process None standard.there (none-placed own offered.are_own standard.kind standard.process.kind standard.is_of_kind.named)))
           (standard, λ mine. not-both own plan p offered.are_own standard mine)
       | inr of ↦

@@ -75,10 +75,10 @@ pub record AreOwnKinds (own : List KindSpec) : Type 0 where
   pub inputs : IsTrue (list_all has_own_inputs own)
   pub outputs : IsTrue (list_all has_own_outputs own)
 
--- The table of kinds for networks with these beside the standard ones.
+-- The table of all standard kinds, with all their ports, and of these behind them.
 abbrev pub table_with : List KindSpec → List KindSpec
 table_with own = std_kinds ++ own
 
--- The table for networks of a file of this version: of the standard kinds those that such a file may name.
+-- The table for networks of a file of this version: the standard kinds that such a file may name, as it has them, and these.
 abbrev pub table_of : ℕ → List KindSpec → List KindSpec
 table_of version own = std_kinds_of version ++ own

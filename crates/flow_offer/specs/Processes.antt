@@ -11,7 +11,7 @@ use Rattle.flow_plan.specs.Valid.{IsValid, HasSender, needs_of}
 use Rattle.flow_net.specs.Over.{IsOver, entries}
 use Rattle.flow_catalogue.specs.Rows.{HasOptions, IsCount, count_on}
 use Rattle.flow_catalogue.specs.Processes.{IsStandard}
-use Rattle.flow_offer.specs.Kinds.{AreOwnKinds, table_with}
+use Rattle.flow_offer.specs.Kinds.{AreOwnKinds, table_of}
 
 -- The place of the kind of this name among the caller's own, if one has it.
 abbrev pub place_of : List KindSpec → List ℕ → Option ℕ
@@ -53,8 +53,9 @@ abbrev pub IsStandardOrOwn : List KindSpec → Network → ℕ → Option ℕ �
 IsStandardOrOwn own plan p None = IsStandard plan p × (¬ IsOwnAt own plan p)
 IsStandardOrOwn own plan p (Some place) = IsOwnOf own plan p place × (¬ IsStandard plan p)
 
--- The plan is a valid one over the standard kinds and these, which are such as a caller may have.
+-- The plan is a valid one over the standard kinds of a version and these, which are such as a caller may have.
 pub record IsOfferedPlan (own : List KindSpec) (plan : Network) : Type 0 where
   pub are_own : AreOwnKinds own
   pub valid : IsValid plan
-  pub over : IsOver (table_with own) plan
+  pub version : ℕ
+  pub over : IsOver (table_of version own) plan

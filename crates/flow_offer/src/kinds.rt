@@ -2,7 +2,7 @@
 
 ghost use Rattle.std.specs.Prelude.{◌≡◌, ◌++◌, IfOk};
 ghost use Rattle.flow_offer.specs.Kinds.{table_of, table_with};
-ghost use Rattle.flow_offer.specs.Laws.{ATableOfAVersionIsWithin, OwnKindsMakeTable, OwnKindsMakeTableOf};
+ghost use Rattle.flow_offer.specs.Laws.{OwnKindsMakeTable, OwnKindsMakeTableOf};
 
 use flow_catalogue::{kinds, kinds_of};
 use flow_items::Items;
@@ -14,14 +14,9 @@ pub fn own_kinds_make_a_table()
     ensures { OwnKindsMakeTable }
 {}
 
-/// So are those of them that a network file of a version may name.
+/// So are those that a network file of a version may name, with the ports that they have there.
 pub fn own_kinds_make_a_table_of_each_version()
     ensures { OwnKindsMakeTableOf }
-{}
-
-/// A plan over the kinds that a file of a version may name is one over all kinds.
-pub fn a_table_of_a_version_is_within()
-    ensures { ATableOfAVersionIsWithin }
 {}
 
 fn copy_port(alloc: Global, port: &PortSpec) -> Result<PortSpec, AllocError>
@@ -84,7 +79,7 @@ fn with_copies(
     Ok(all)
 }
 
-/// The table of the standard kinds, and behind them copies of these.
+/// The table of the standard kinds with all their ports, and behind them copies of these.
 pub fn table(alloc: Global, own: &[KindSpec]) -> Result<Vec<KindSpec>, AllocError>
     ensures { IfOk result (λ table. table.items ≡ table_with own.now) }
 {
@@ -92,7 +87,7 @@ pub fn table(alloc: Global, own: &[KindSpec]) -> Result<Vec<KindSpec>, AllocErro
     with_copies(alloc, standard, own)
 }
 
-/// The table for network files of a version: the standard kinds that such a file may name, and behind them copies of these.
+/// The table for network files of a version: the standard kinds that such a file may name, with the ports that they have there, and behind them copies of these.
 pub fn table_of(alloc: Global, version: u32, own: &[KindSpec]) -> Result<Vec<KindSpec>, AllocError>
     ensures { IfOk result (λ table. table.items ≡ table_of version own.now) }
 {

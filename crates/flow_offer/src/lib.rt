@@ -11,8 +11,7 @@ mod shares;
 
 pub use fits::{own_components_fit, shape_at, used_outputs};
 pub use kinds::{
-    a_table_of_a_version_is_within, copies, own_kinds_make_a_table,
-    own_kinds_make_a_table_of_each_version, table, table_of,
+    copies, own_kinds_make_a_table, own_kinds_make_a_table_of_each_version, table, table_of,
 };
 pub use processes::{each_process_is_standard_or_own, own_kind};
 pub use shares::no_part;

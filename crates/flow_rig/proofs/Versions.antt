@@ -1,14 +1,12 @@
 -- What is known of tables with kinds of the caller's own, where there are none.
-use Rattle.std.proofs.Common.{ℕ, List, [], refl, sym, subst}
+use Rattle.std.proofs.Common.{ℕ, List, [], refl, subst}
 use Rattle.std.specs.Prelude.{IsTrue}
 use Rattle.std.proofs.lemmas.List.{append-nil}
 use Rattle.flow_plan.specs.declared.kind.KindSpec.{KindSpec}
-use Rattle.flow_plan.specs.Network.{Network}
 use Rattle.flow_net.specs.Kinds.{is_table}
-use Rattle.flow_net.specs.Over.{IsOver}
-use Rattle.flow_catalogue.specs.Kinds.{std_kinds, std_kinds_of}
+use Rattle.flow_catalogue.specs.Kinds.{std_kinds_of}
 use Rattle.flow_offer.specs.Kinds.{AreOwnKinds}
-use Rattle.flow_offer.specs.Laws.{ATableOfAVersionIsWithin, OwnKindsMakeTableOf}
+use Rattle.flow_offer.specs.Laws.{OwnKindsMakeTableOf}
 
 no-kinds : AreOwnKinds []
 no-kinds = record {
@@ -25,9 +23,3 @@ no-kinds = record {
 -- The standard kinds of a version are a table.
 pub standard-table : OwnKindsMakeTableOf → (version : ℕ) → IsTrue (is_table (std_kinds_of version))
 standard-table law version = subst (λ (kinds : List KindSpec). IsTrue (is_table kinds)) (append-nil (std_kinds_of version)) (law version [] no-kinds)
-
--- A plan over them is one over all standard kinds.
-pub standard-within : ATableOfAVersionIsWithin → (version : ℕ) (plan : Network) → IsOver (std_kinds_of version) plan → IsOver std_kinds plan
-standard-within law version plan over =
-    let with_none = subst (λ (kinds : List KindSpec). IsOver kinds plan) (sym (append-nil (std_kinds_of version))) over in
-    subst (λ (kinds : List KindSpec). IsOver kinds plan) (append-nil std_kinds) (law version [] plan with_none)

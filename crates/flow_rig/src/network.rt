@@ -1,13 +1,12 @@
 //! The plan of a network's text over the standard kinds of its version.
 ghost use Rattle.std.specs.Prelude.{◌≡◌, IfOk};
 ghost use Rattle.flow_plan.specs.Network.{Network};
-ghost use Rattle.flow_net.specs.Over.{IsOver};
-ghost use Rattle.flow_catalogue.specs.Kinds.{std_kinds};
+ghost use Rattle.flow_catalogue.specs.Plans.{IsOverStandard};
 ghost use Rattle.flow_rig.specs.Networks.{IsPlanOf};
 
 use flow_catalogue::kinds_of;
 use flow_expand::{ExpandStop, expand};
-use flow_offer::{a_table_of_a_version_is_within, own_kinds_make_a_table_of_each_version};
+use flow_offer::own_kinds_make_a_table_of_each_version;
 use flow_parse::{ParseStop, parse};
 use flow_plan::Plan;
 use std::alloc::{AllocError, Global};
@@ -33,12 +32,11 @@ impl From<AllocError> for TrialStop {
 /// The plan of a text over the standard kinds that a file of its version may name.
 pub fn plan_of_text(alloc: Global, text: &[u8]) -> Result<Plan, TrialStop>
     ensures plan { IfOk result (IsPlanOf text.now) }
-    ensures over { IfOk result (IsOver std_kinds) }
+    ensures over { IfOk result IsOverStandard }
     // A text is refused only where it has no plan.
     ensures refused { result ≡ Err TrialStop.Refused → (plan : Network) → IsPlanOf text.now plan → ⊥ }
 {
     own_kinds_make_a_table_of_each_version();
-    a_table_of_a_version_is_within();
     let value = match parse(alloc, text) {
         Ok(value) => value,
         Err(ParseStop::Fault(_)) => return Err(TrialStop::Refused),

@@ -2,9 +2,8 @@
 ghost use Rattle.std.specs.Prelude.{◌≡◌, ◌<◌, ℕ, IfOk, IsTrue, map};
 ghost use Rattle.flow_plan.specs.Valid.{HasSender};
 ghost use Rattle.flow_plan.specs.Network.{Network};
-ghost use Rattle.flow_net.specs.Over.{IsOver};
 ghost use Rattle.flow_model.specs.Plans.{StartsWell};
-ghost use Rattle.flow_catalogue.specs.Kinds.{std_kinds};
+ghost use Rattle.flow_catalogue.specs.Plans.{IsOverStandard};
 ghost use Rattle.flow_catalogue.specs.Processes.{IsStandard};
 ghost use Rattle.flow_catalogue.specs.Std.{std_rules};
 ghost use Rattle.flow_rig.specs.Asker.{asker_rules};
@@ -93,7 +92,7 @@ fn standard_component(
 
 /// The standard components of a plan, each reader on the same bytes.
 pub fn standard_components(alloc: Global, plan: &Plan, bytes: &[u8]) -> Result<Vec<Std>, AllocError>
-    requires { IsOver std_kinds plan.now }
+    requires { IsOverStandard plan.now }
     ensures components { IfOk result (λ components. AreComponentsOn bytes.now plan.now components.items) }
     ensures well { IfOk result (λ components. StartsWell std_rules plan.now components.items) }
 {

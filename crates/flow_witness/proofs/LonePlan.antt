@@ -30,7 +30,7 @@ use Rattle.flow_catalogue.specs.declared.table.StdKind.TheVariants as kinds
 use Rattle.flow_catalogue.specs.Kinds.{name_of}
 use Rattle.flow_catalogue.proofs.OptionTexts.{has-options}
 use Rattle.flow_offer.specs.Fits.{player_at}
-use Rattle.flow_offer.specs.Kinds.{AreOwnKinds, table_of, table_with}
+use Rattle.flow_offer.specs.Kinds.{AreOwnKinds, table_of}
 use Rattle.flow_offer.specs.Processes.{IsOfferedPlan, IsOwnAt}
 use Rattle.flow_load.specs.Components.{AreComponents, IsPlayedComponent}
 use Rattle.flow_load.specs.Networks.{Holds}
@@ -192,17 +192,17 @@ valid = record {
 }
 
 -- Its process is of the kind.
-of-kind : (p : ℕ) (x : Process) (table : PortTable) → slice_get lone.processes p ≡ Some x → slice_get lone.tables p ≡ Some table → IsOfKind (table_with own_kinds) x table
+of-kind : (p : ℕ) (x : Process) (table : PortTable) → slice_get lone.processes p ≡ Some x → slice_get lone.tables p ≡ Some table → IsOfKind (table_of 3 own_kinds) x table
 of-kind p x table hx ht =
-    at_one (λ k (y : Process). slice_get lone.tables k ≡ Some table → IsOfKind (table_with own_kinds) y table) lone_process
-    (λ h. subst (λ (t : PortTable). IsOfKind (table_with own_kinds) lone_process t) (sym (table-is 0 table h)) (record { place = 31; kind = lone_kind; here = refl; name = refl; inputs = refl; outputs = refl }))
+    at_one (λ k (y : Process). slice_get lone.tables k ≡ Some table → IsOfKind (table_of 3 own_kinds) y table) lone_process
+    (λ h. subst (λ (t : PortTable). IsOfKind (table_of 3 own_kinds) lone_process t) (sym (table-is 0 table h)) (record { place = 31; kind = lone_kind; here = refl; name = refl; inputs = refl; outputs = refl }))
     p x hx ht
 
-pub over : IsOver (table_with own_kinds) lone
+pub over : IsOver (table_of 3 own_kinds) lone
 over = record { each = of-kind }
 
 pub offered : IsOfferedPlan own_kinds lone
-offered = record { are_own = are_own; valid = valid; over = over }
+offered = record { are_own = are_own; valid = valid; version = 3; over = over }
 
 abbrev pub is_own : IsOwnAt own_kinds lone 0
 is_own = record {

@@ -18,7 +18,7 @@ use Rattle.flow_catalogue.specs.declared.standard.Std.{Std}
 use Rattle.flow_catalogue.specs.declared.table.StdKind.TheVariants as kinds
 use Rattle.flow_catalogue.specs.Processes.{Fits}
 use Rattle.flow_catalogue.specs.Std.{std_rules}
-use Rattle.flow_catalogue.specs.Kinds.{std_kinds}
+use Rattle.flow_catalogue.specs.Kinds.{std_kinds_of}
 use Rattle.flow_determinate.specs.Standard.{IsDeterminate}
 use Rattle.flow_journal.specs.Files.{HasOneJournal}
 use Rattle.flow_journal.specs.Replays.{schedule_of}
@@ -65,7 +65,7 @@ no-kinds = record {
 
 -- The plan is one over the standard kinds alone.
 offered : IsOfferedPlan [] balance
-offered = record { are_own = no-kinds; valid = valid; over = subst (λ (kinds : List KindSpec). IsOver kinds balance) (sym (append-nil std_kinds)) over }
+offered = record { are_own = no-kinds; valid = valid; version = 3; over = subst (λ (kinds : List KindSpec). IsOver kinds balance) (sym (append-nil (std_kinds_of 3))) over }
 
 -- The bytes for each process: the reader's file, and none for the others.
 abbrev given : List (List ℕ)

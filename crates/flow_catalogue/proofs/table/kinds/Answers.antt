@@ -9,5 +9,5 @@ pub loop-kind-preserved : goal.loop-kind-preserved
 loop-kind-preserved c =
     let k = c.loop-kind.kind-index in
     let more : take (k + 1) all_kinds ≡ take k all_kinds ++ get_or all_kinds k ReadLines ∷ [] = rw add-one (take-suc all_kinds k ReadLines (omega arith)) in
-    let spec : c.in_ok-spec.field-0 ≡ spec_of (get_or all_kinds k ReadLines) = c.in_ok-spec.ensures in
+    let spec : c.in_ok-spec.field-0 ≡ spec_of (get_or all_kinds k ReadLines) = c.in_ok-spec.ensures 3 in
     c.in_ok-push.ensures.items ∙ (λ i. c.loop-kind.invariant i ++ spec i ∷ []) ∙ sym (map-append spec_of (take k all_kinds) (get_or all_kinds k ReadLines ∷ [])) ∙ ap (map spec_of) (sym more)

@@ -13,7 +13,8 @@ returns-in-Ok-expand c = (
   record {
     are_own = c.requires;
     valid = search rules;
-    over = c.a_table_of_a_version_is_within.ensures c.in-Ok.text.version _ c.in-Ok-expand.plan (subst (λ (kinds : List KindSpec). IsOver kinds c.in-Ok-expand.plan) c.in_ok-kinds.ensures c.in-Ok-expand.ensures.over);
+    version = c.in-Ok.text.version;
+    over = subst (λ (kinds : List KindSpec). IsOver kinds c.in-Ok-expand.plan) c.in_ok-kinds.ensures c.in-Ok-expand.ensures.over;
   },
 )
 

@@ -7,5 +7,6 @@ pub returns : goal.returns
 returns c = record {
   are_own = c.requires;
   valid = c.processes.ensures.valid;
+  version = 3;
   over = subst (λ (kinds : List KindSpec). IsOver kinds c.in-Ok-expand.plan) c.in_ok-table.ensures c.in-Ok-expand.ensures.over;
 }

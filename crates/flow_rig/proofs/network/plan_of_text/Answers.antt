@@ -11,7 +11,7 @@ use Rattle.flow_expand.specs.declared.stop.ExpandStop.{ExpandStop}
 use Rattle.flow_expand.specs.declared.stop.ExpandStop.TheVariants as stops
 use Rattle.flow_expand.specs.Outcomes.{Gives}
 use Rattle.flow_catalogue.specs.Kinds.{std_kinds_of}
-use Rattle.flow_rig.proofs.Versions.{standard-table, standard-within}
+use Rattle.flow_rig.proofs.Versions.{standard-table}
 use Rattle.flow_rig.proofs.network.plan_of_text.Goals as goal
 
 -- an answer that is a fault gives no plan
@@ -27,8 +27,7 @@ expand-requires-clause-table c =
 
 pub returns-in-Ok-expand-clause-over : goal.returns-in-Ok-expand-clause-over
 returns-in-Ok-expand-clause-over c =
-    let over = subst (λ (kinds : List KindSpec). IsOver kinds c.in-Ok-expand.plan) c.in_ok-kinds.ensures c.in-Ok-expand.ensures.over in
-    standard-within c.a_table_of_a_version_is_within.ensures c.in-Ok.value.version c.in-Ok-expand.plan over
+    (c.in-Ok.value.version, subst (λ (kinds : List KindSpec). IsOver kinds c.in-Ok-expand.plan) c.in_ok-kinds.ensures c.in-Ok-expand.ensures.over)
 
 pub returns-in-Err-Fault-expand-clause-refused : goal.returns-in-Err-Fault-expand-clause-refused
 returns-in-Err-Fault-expand-clause-refused c = λ is plan of.
