@@ -242,7 +242,7 @@ pub fn put_option(page: &mut String, name: &Text, class: PortClass) -> Result<()
         ),
         PortClass::Whether => page.push_str(" is yes or no.\n"),
         PortClass::Order => page.push_str(
-            " is bytes, number or letters, and maybe down behind it, as number down.\n",
+            " is bytes or number, and maybe down behind it, as number down.\n",
         ),
         PortClass::Summary { names } => put_summary_rule(page, names),
         PortClass::Text => page.push_str(" is any text.\n"),

@@ -164,7 +164,7 @@ fn put_class(page: &mut String, class: PortClass) -> Result<(), AllocError> {
         PortClass::Template { pattern: _ } => page.push_str(": a template"),
         PortClass::Bound => page.push_str(": a bound, as > 100"),
         PortClass::Whether => page.push_str(": yes or no"),
-        PortClass::Order => page.push_str(": bytes, number or letters, and maybe down behind it"),
+        PortClass::Order => page.push_str(": bytes or number, and maybe down behind it"),
         PortClass::Summary { names } => {
             page.push_str(": a text with")?;
             put_names(page, names)?;

@@ -107,21 +107,20 @@ dec_number : (least most : ℕ) (text : List ℕ) → Dec (IsNumberWithin least 
 dec_number least most text = dec_and3 (dec_plain text) (dec_le least (number_of text)) (dec_le (number_of text) most)
 
 dec_order_word : (word : List ℕ) → Dec (IsOrderWord word)
-dec_order_word word = dec_or (dec_bytes word (codes "bytes")) (dec_or (dec_bytes word (codes "number")) (dec_bytes word (codes "letters")))
+dec_order_word word = dec_or (dec_bytes word (codes "bytes")) (dec_bytes word (codes "number"))
 
 -- such a word with ` down` behind it
 abbrev IsDown : List ℕ → Type 0
 IsDown text = (word : List ℕ) × IsOrderWord word × (text ≡ word ++ codes " down")
 
 dec_down : (text : List ℕ) → Dec (IsDown text)
-dec_down text = by (dec_bytes text (codes "bytes down")) (dec_bytes text (codes "number down")) (dec_bytes text (codes "letters down")) where
-  by : Dec (text ≡ codes "bytes down") → Dec (text ≡ codes "number down") → Dec (text ≡ codes "letters down") → Dec (IsDown text)
-  by (inl is) number letters = inl (codes "bytes", inl refl, is)
-  by (inr bytes) (inl is) letters = inl (codes "number", inr (inl refl), is)
-  by (inr bytes) (inr number) (inl is) = inl (codes "letters", inr (inr refl), is)
-  by (inr bytes) (inr number) (inr letters) = inr (λ down.
+dec_down text = by (dec_bytes text (codes "bytes down")) (dec_bytes text (codes "number down")) where
+  by : Dec (text ≡ codes "bytes down") → Dec (text ≡ codes "number down") → Dec (IsDown text)
+  by (inl is) number = inl (codes "bytes", inl refl, is)
+  by (inr bytes) (inl is) = inl (codes "number", inr refl, is)
+  by (inr bytes) (inr number) = inr (λ down.
       let behind : (word : List ℕ) → down.0 ≡ word → text ≡ word ++ codes " down" = λ word same. down.2 ∙ ap (λ (w : List ℕ). w ++ codes " down") same in
-      elim down.1 [ inl is ↦ bytes (behind (codes "bytes") is) | inr other ↦ elim other [ inl is ↦ number (behind (codes "number") is) | inr is ↦ letters (behind (codes "letters") is) ] ])
+      elim down.1 [ inl is ↦ bytes (behind (codes "bytes") is) | inr is ↦ number (behind (codes "number") is) ])
 
 dec_order : (text : List ℕ) → Dec (IsOrder text)
 dec_order text = dec_or (dec_order_word text) (dec_down text)

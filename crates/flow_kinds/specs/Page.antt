@@ -40,7 +40,7 @@ range_text Pattern = codes ": a pattern"
 range_text (Template pattern) = codes ": a template"
 range_text Bound = codes ": a bound, as > 100"
 range_text Whether = codes ": yes or no"
-range_text Order = codes ": bytes, number or letters, and maybe down behind it"
+range_text Order = codes ": bytes or number, and maybe down behind it"
 range_text (Summary names) = codes ": a text with" ++ names_text names ++ codes " in it"
 range_text Text = codes ": any text"
 

@@ -121,7 +121,7 @@ fn put_range(page: &mut Vec<u8>, class: PortClass) -> Result<(), AllocError>
         PortClass::Bound => page.extend_from_slice(b": a bound, as > 100"),
         PortClass::Whether => page.extend_from_slice(b": yes or no"),
         PortClass::Order => page.extend_from_slice(
-            b": bytes, number or letters, and maybe down behind it",
+            b": bytes or number, and maybe down behind it",
         ),
         PortClass::Summary { names } => {
             page.extend_from_slice(b": a text with")?;

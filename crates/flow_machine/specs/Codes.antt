@@ -76,11 +76,12 @@ fail_numbers fails.HandsLimit = (3, (0, (0, 0)))
 fail_numbers fails.TreeDepth = (4, (0, (0, 0)))
 fail_numbers (fails.BracketIn p) = (5, (p.0, (0, 0)))
 fail_numbers fails.SumLimit = (6, (0, (0, 0)))
-fail_numbers (fails.Own (owns.Own n)) = (7, (0, (n, 0)))
-fail_numbers (fails.Own (owns.Packet n)) = (7, (1, (n, 0)))
-fail_numbers (fails.Own (owns.Port n)) = (7, (2, (n, 0)))
-fail_numbers (fails.Own owns.TapeLimit) = (7, (3, (0, 0)))
-fail_numbers (fails.Own owns.Differs) = (7, (4, (0, 0)))
+fail_numbers (fails.Unsorted p id) = (7, (p.0, (id, 0)))
+fail_numbers (fails.Own (owns.Own n)) = (8, (0, (n, 0)))
+fail_numbers (fails.Own (owns.Packet n)) = (8, (1, (n, 0)))
+fail_numbers (fails.Own (owns.Port n)) = (8, (2, (n, 0)))
+fail_numbers (fails.Own owns.TapeLimit) = (8, (3, (0, 0)))
+fail_numbers (fails.Own owns.Differs) = (8, (4, (0, 0)))
 
 abbrev own_from : ℕ → ℕ → OwnFail
 own_from zero n = owns.Own n
@@ -97,7 +98,8 @@ fail_from (suc (suc (suc zero))) n m = fails.HandsLimit
 fail_from (suc (suc (suc (suc zero)))) n m = fails.TreeDepth
 fail_from (suc (suc (suc (suc (suc zero))))) n m = fails.BracketIn (port n)
 fail_from (suc (suc (suc (suc (suc (suc zero)))))) n m = fails.SumLimit
-fail_from (suc (suc (suc (suc (suc (suc (suc k))))))) n m = fails.Own (own_from n m)
+fail_from (suc (suc (suc (suc (suc (suc (suc zero))))))) n m = fails.Unsorted (port n) m
+fail_from (suc (suc (suc (suc (suc (suc (suc (suc k)))))))) n m = fails.Own (own_from n m)
 
 fail-back : (f : Fail) → fail_from (fail_numbers f).0 (fail_numbers f).1.0 (fail_numbers f).1.1.0 ≡ f
 fail-back (fails.Unnested p) = refl
@@ -107,6 +109,7 @@ fail-back fails.HandsLimit = refl
 fail-back fails.TreeDepth = refl
 fail-back (fails.BracketIn p) = refl
 fail-back fails.SumLimit = refl
+fail-back (fails.Unsorted p id) = refl
 fail-back (fails.Own (owns.Own n)) = refl
 fail-back (fails.Own (owns.Packet n)) = refl
 fail-back (fails.Own (owns.Port n)) = refl

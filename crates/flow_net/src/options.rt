@@ -93,7 +93,7 @@ fn is_whether(text: &[u8]) -> bool
 fn is_order_word(word: &[u8]) -> bool
     ensures { IsTrue result ↔ IsOrderWord word.now }
 {
-    word == b"bytes".as_slice() || word == b"number".as_slice() || word == b"letters".as_slice()
+    word == b"bytes".as_slice() || word == b"number".as_slice()
 }
 
 fn is_order(text: &[u8]) -> bool

@@ -34,7 +34,7 @@ IsWhether text = (text ≡ codes "yes") ⊎ (text ≡ codes "no")
 
 -- A word that says by what texts are put into order.
 abbrev pub IsOrderWord : List ℕ → Type 0
-IsOrderWord word = (word ≡ codes "bytes") ⊎ (word ≡ codes "number") ⊎ (word ≡ codes "letters")
+IsOrderWord word = (word ≡ codes "bytes") ⊎ (word ≡ codes "number")
 
 -- Such a word, or one with a space and `down` behind it.
 abbrev pub IsOrder : List ℕ → Type 0

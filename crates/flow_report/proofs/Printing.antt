@@ -35,7 +35,7 @@ pub head-of : (r : Told) (ps : List ProcessLine) (cs : List ConnectionLine) (bs 
     → t3 ≡ t2 ++ flat_map (λ x. ended (connection_line x)) cs
     → t4 ≡ t3 ++ flat_map (λ x. ended (blocked_line x)) bs
     → tw ≡ t4 ++ flat_map (λ x. ended (waits_line ps cs x)) ws
-    → t5 ≡ tw ++ flat_map (λ x. ended (failed_line x)) fs
+    → t5 ≡ tw ++ flat_map (λ x. ended (failed_line ps x)) fs
     → t5 ≡ flat_map ended (head_lines r)
 head-of r ps cs bs ws fs t0 t1 t2 t3 t4 tw t5 p_is c_is b_is w_is f_is e0 e1 e2 e3 e4 ew e5 =
     let d1 : List (List ℕ) = verdict_line r.verdict ∷ [] in
@@ -49,7 +49,7 @@ head-of r ps cs bs ws fs t0 t1 t2 t3 t4 tw t5 p_is c_is b_is w_is f_is e0 e1 e2 
     let s3 : t3 ≡ flat_map ended d3 = lines-more connection_line r.connections d2 t2 t3 s2 (e3 ∙ ap (λ (l : List ConnectionLine). t2 ++ flat_map (λ x. ended (connection_line x)) l) c_is) in
     let s4 : t4 ≡ flat_map ended d4 = lines-more blocked_line r.blocked d3 t3 t4 s3 (e4 ∙ ap (λ (l : List Blocked). t3 ++ flat_map (λ x. ended (blocked_line x)) l) b_is) in
     let sw : tw ≡ flat_map ended dw = lines-more waits r.waits d4 t4 tw s4 (ew ∙ (λ i. t4 ++ flat_map (λ x. ended (waits_line (p_is i) (c_is i) x)) (w_is i))) in
-    lines-more failed_line r.failed dw tw t5 sw (e5 ∙ ap (λ (l : List Failure). tw ++ flat_map (λ x. ended (failed_line x)) l) f_is)
+    lines-more (failed_line r.processes) r.failed dw tw t5 sw (e5 ∙ (λ i. tw ++ flat_map (λ x. ended (failed_line (p_is i) x)) (f_is i)))
 
 -- The lines of packets that are left, appended one by one.
 pub left-of : (r : Told) (ps : List ProcessLine) (cs : List ConnectionLine) (ls : List LeftPacket) (before after : List ℕ) → ps ≡ r.processes → cs ≡ r.connections

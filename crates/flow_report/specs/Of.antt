@@ -84,6 +84,7 @@ cause_at plan p fails.HandsLimit = causes.HandsLimit
 cause_at plan p fails.TreeDepth = causes.TreeDepth
 cause_at plan p (fails.BracketIn port) = causes.BracketIn (input_text plan p port.0)
 cause_at plan p fails.SumLimit = causes.SumLimit
+cause_at plan p (fails.Unsorted port id) = causes.Unsorted (input_text plan p port.0) id
 cause_at plan p (fails.Own own) = causes.Own own
 
 -- What is told of a process that failed.

@@ -15,7 +15,7 @@ use Rattle.flow_report.specs.declared.report.Wait.{Wait}
 use Rattle.flow_report.specs.declared.report.Wait.TheVariants.{Empty, Full, Dormant}
 use Rattle.flow_report.specs.declared.report.Blocked.{Blocked}
 use Rattle.flow_report.specs.declared.report.Cause.{Cause}
-use Rattle.flow_report.specs.declared.report.Cause.TheVariants.{Unnested, TurnLimit, TextLimit, HandsLimit, TreeDepth, BracketIn, SumLimit, Own as OwnCause}
+use Rattle.flow_report.specs.declared.report.Cause.TheVariants.{Unnested, TurnLimit, TextLimit, HandsLimit, TreeDepth, BracketIn, SumLimit, Unsorted, Own as OwnCause}
 use Rattle.flow_component.specs.declared.OwnFail.{OwnFail}
 use Rattle.flow_component.specs.declared.OwnFail.TheVariants as owns
 use Rattle.flow_report.specs.declared.report.Failure.{Failure}
@@ -68,17 +68,6 @@ own_text (owns.Port port) = codes "own port " ++ decimal port
 own_text owns.TapeLimit = codes "own tape limit"
 own_text owns.Differs = codes "own tape differs"
 
--- Why a process failed, in words.
-abbrev pub cause_text : Cause → List ℕ
-cause_text (Unnested port) = codes "unnested " ++ port
-cause_text TurnLimit = codes "turn limit"
-cause_text (TextLimit length) = codes "text limit " ++ decimal length
-cause_text HandsLimit = codes "hands limit"
-cause_text TreeDepth = codes "tree depth"
-cause_text (BracketIn port) = codes "bracket in " ++ port
-cause_text SumLimit = codes "sum limit"
-cause_text (OwnCause own) = own_text own
-
 -- The name of process p among these.
 abbrev pub process_name : List ProcessLine → ℕ → List ℕ
 process_name processes p = unwrap_or (option_map (λ x. x.name) (slice_get processes p)) []
@@ -90,6 +79,18 @@ connection_name connections c = unwrap_or (option_map (λ x. x.name) (slice_get 
 -- A packet is spelled by the name of its maker and by how many packets its maker had made before it.
 abbrev pub packet_text : List ProcessLine → ℕ → List ℕ
 packet_text processes id = process_name processes (maker_of id) ++ codes ":" ++ decimal (ordinal_of id)
+
+-- Why a process failed, in words.
+abbrev pub cause_text : List ProcessLine → Cause → List ℕ
+cause_text processes (Unnested port) = codes "unnested " ++ port
+cause_text processes TurnLimit = codes "turn limit"
+cause_text processes (TextLimit length) = codes "text limit " ++ decimal length
+cause_text processes HandsLimit = codes "hands limit"
+cause_text processes TreeDepth = codes "tree depth"
+cause_text processes (BracketIn port) = codes "bracket in " ++ port
+cause_text processes SumLimit = codes "sum limit"
+cause_text processes (Unsorted port packet) = codes "unsorted in " ++ port ++ codes " at " ++ packet_text processes packet
+cause_text processes (OwnCause own) = own_text own
 
 -- A place in words.
 abbrev pub place_text : List ProcessLine → List ConnectionLine → Place → List ℕ
@@ -122,8 +123,8 @@ abbrev pub waits_line : List ProcessLine → List ConnectionLine → Waits → L
 waits_line processes connections w = codes "waits " ++ process_name processes w.process ++ codes " for " ++ process_name processes w.to ++ codes " at " ++ connection_name connections w.connection
 
 -- The line of a process that failed.
-abbrev pub failed_line : Failure → List ℕ
-failed_line f = codes "failed " ++ f.name ++ codes " " ++ cause_text f.cause
+abbrev pub failed_line : List ProcessLine → Failure → List ℕ
+failed_line processes f = codes "failed " ++ f.name ++ codes " " ++ cause_text processes f.cause
 
 -- The line of a packet that is left.
 abbrev pub left_line : List ProcessLine → List ConnectionLine → LeftPacket → List ℕ
@@ -143,7 +144,7 @@ head_lines r =
     ++ map connection_line r.connections
     ++ map blocked_line r.blocked
     ++ map (waits_line r.processes r.connections) r.waits
-    ++ map failed_line r.failed
+    ++ map (failed_line r.processes) r.failed
 
 -- The lines of a report in which these tell of the packets that are left, and behind them the totals.
 abbrev pub lines_around : List (List ℕ) → Told → List (List ℕ)

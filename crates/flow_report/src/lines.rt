@@ -146,21 +146,29 @@ fn put_waits_for(
 }
 
 /// Appends a line for each process that failed.
-pub fn put_failed(text: &mut Vec<u8>, failed: &[Failure]) -> Result<(), AllocError>
-    ensures { OnOk result (text.new.items ≡ text.old.items ++ flat_map (λ f. ended (failed_line f)) failed.now) }
+pub fn put_failed(
+    text: &mut Vec<u8>,
+    processes: &[ProcessLine],
+    failed: &[Failure],
+) -> Result<(), AllocError>
+    ensures { OnOk result (text.new.items ≡ text.old.items ++ flat_map (λ f. ended (failed_line processes.now f)) failed.now) }
 {
     for process in failed {
-        put_failure(text, process)?;
+        put_failure(text, processes, process)?;
     }
     Ok(())
 }
 
-fn put_failure(text: &mut Vec<u8>, process: &Failure) -> Result<(), AllocError>
-    ensures { OnOk result (text.new.items ≡ text.old.items ++ ended (failed_line process.now)) }
+fn put_failure(
+    text: &mut Vec<u8>,
+    processes: &[ProcessLine],
+    process: &Failure,
+) -> Result<(), AllocError>
+    ensures { OnOk result (text.new.items ≡ text.old.items ++ ended (failed_line processes.now process.now)) }
 {
     put_two(text, b"failed ", process.name.as_slice())?;
     text.extend_from_slice(b" ")?;
-    put_cause(text, &process.cause)?;
+    put_cause(text, processes, &process.cause)?;
     text.extend_from_slice(b"\n")
 }
 
@@ -176,8 +184,25 @@ fn put_own(text: &mut Vec<u8>, own: &OwnFail) -> Result<(), AllocError>
     }
 }
 
-fn put_cause(text: &mut Vec<u8>, cause: &Cause) -> Result<(), AllocError>
-    ensures { OnOk result (text.new.items ≡ text.old.items ++ cause_text cause.now) }
+fn put_unsorted(
+    text: &mut Vec<u8>,
+    processes: &[ProcessLine],
+    port: &[u8],
+    packet: PacketId,
+) -> Result<(), AllocError>
+    ensures { OnOk result (text.new.items ≡ text.old.items ++ codes "unsorted in " ++ port.now ++ codes " at " ++ packet_text processes.now packet) }
+{
+    put_two(text, b"unsorted in ", port)?;
+    text.extend_from_slice(b" at ")?;
+    put_packet(text, processes, packet)
+}
+
+fn put_cause(
+    text: &mut Vec<u8>,
+    processes: &[ProcessLine],
+    cause: &Cause,
+) -> Result<(), AllocError>
+    ensures { OnOk result (text.new.items ≡ text.old.items ++ cause_text processes.now cause.now) }
 {
     match cause {
         Cause::Unnested(port) => put_two(text, b"unnested ", port.as_slice()),
@@ -187,6 +212,7 @@ fn put_cause(text: &mut Vec<u8>, cause: &Cause) -> Result<(), AllocError>
         Cause::TreeDepth => text.extend_from_slice(b"tree depth"),
         Cause::BracketIn(port) => put_two(text, b"bracket in ", port.as_slice()),
         Cause::SumLimit => text.extend_from_slice(b"sum limit"),
+        Cause::Unsorted(port, packet) => put_unsorted(text, processes, port.as_slice(), *packet),
         Cause::Own(own) => put_own(text, own),
     }
 }

@@ -174,6 +174,9 @@ fn cause_of(alloc: Global, plan: &Plan, process: u32, fail: Fail) -> Result<Caus
         Fail::TreeDepth => Ok(Cause::TreeDepth),
         Fail::BracketIn(port) => Ok(Cause::BracketIn(input_text(alloc, plan, process, port)?)),
         Fail::SumLimit => Ok(Cause::SumLimit),
+        Fail::Unsorted(port, id) => {
+            Ok(Cause::Unsorted(input_text(alloc, plan, process, port)?, id))
+        }
         Fail::Own(own) => Ok(Cause::Own(own)),
     }
 }

@@ -87,6 +87,8 @@ pub enum Cause {
     TreeDepth,
     BracketIn(Text),
     SumLimit,
+    /// The port at which texts ascend, and the packet that came there behind a greater one.
+    Unsorted(Text, PacketId),
     /// A component of the caller's own failed.
     Own(OwnFail),
 }
@@ -229,7 +231,7 @@ impl Report {
         put_connections(&mut text, connections)?;
         put_blocked(&mut text, self.blocked.as_slice())?;
         put_waits(&mut text, processes, connections, self.waits.as_slice())?;
-        put_failed(&mut text, self.failed.as_slice())?;
+        put_failed(&mut text, processes, self.failed.as_slice())?;
         Ok(text)
     }
 
