@@ -17,6 +17,7 @@ use Rattle.flow_streams.specs.Select.{select_uses}
 use Rattle.flow_pick.specs.Picking.{parting_uses}
 use Rattle.flow_map.specs.Mapping.{mapper_uses}
 use Rattle.flow_group.specs.Group.{group_uses}
+use Rattle.flow_sum.specs.Reckoning.{reckoner_uses}
 use Rattle.flow_batch.specs.Update.{update_uses}
 use Rattle.flow_batch.specs.Updated.{fresh_update}
 use Rattle.flow_match.specs.Match.{match_uses}
@@ -88,6 +89,12 @@ group-used network p has zero used = has
 group-used network p has (suc zero) used = connected-sends network p 1 used
 group-used network p has (suc (suc o)) used = absurd (other-than o 0 1 (omega arith) (omega arith) (is_connected network p 1) used)
 
+-- and one that reckons
+reckoner-used : (network : Network) (p : ℕ) → HasSender network p 0 → (o : ℕ) → IsTrue (reckoner_uses (is_connected network p 1) o) → HasSender network p o
+reckoner-used network p has zero used = has
+reckoner-used network p has (suc zero) used = connected-sends network p 1 used
+reckoner-used network p has (suc (suc o)) used = absurd (other-than o 0 1 (omega arith) (omega arith) (is_connected network p 1) used)
+
 match-used : (network : Network) (p : ℕ) (pattern : List ℕ) → HasSender network p 0 → (o : ℕ) → IsTrue (match_uses (record { pattern = pattern; rejects = is_connected network p 1 }) o) → HasSender network p o
 match-used network p pattern has zero used = has
 match-used network p pattern has (suc zero) used = connected-sends network p 1 used
@@ -131,3 +138,6 @@ first-fits n p x kinds.Glue file is = record { inputs = sym is.inputs; outputs =
 first-fits n p x kinds.Where file is = record { inputs = sym is.inputs; outputs = sym is.outputs; uses = parting-used n p (is.needed 0 refl); starts = λ held none. none }
 first-fits n p x kinds.Group file is = record { inputs = sym is.inputs; outputs = sym is.outputs; uses = group-used n p (is.needed 0 refl); starts = λ held none. (tt, none) }
 first-fits n p x kinds.Flat file is = record { inputs = sym is.inputs; outputs = sym is.outputs; uses = first-used n p (is.needed 0 refl); starts = λ held none. none }
+first-fits n p x kinds.Sum file is = record { inputs = sym is.inputs; outputs = sym is.outputs; uses = reckoner-used n p (is.needed 0 refl); starts = λ held none. (tt, none) }
+first-fits n p x kinds.Total file is = record { inputs = sym is.inputs; outputs = sym is.outputs; uses = reckoner-used n p (is.needed 0 refl); starts = λ held none. (tt, none) }
+first-fits n p x kinds.Sorted file is = record { inputs = sym is.inputs; outputs = sym is.outputs; uses = first-used n p (is.needed 0 refl); starts = λ held none. none }

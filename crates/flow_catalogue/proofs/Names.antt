@@ -50,6 +50,9 @@ place-of kinds.Glue = (27, refl)
 place-of kinds.Where = (28, refl)
 place-of kinds.Group = (29, refl)
 place-of kinds.Flat = (30, refl)
+place-of kinds.Sum = (31, refl)
+place-of kinds.Total = (32, refl)
+place-of kinds.Sorted = (33, refl)
 
 -- a name is among the names that have it at a place
 among : (name : List ℕ) (names : List (List ℕ)) (i : ℕ) → slice_get names i ≡ Some name → list_any (bytes_eq name) names ≡ true

@@ -46,6 +46,11 @@ spec-as-in version kinds.Split = refl
 spec-as-in version kinds.Rewrite = refl
 spec-as-in version kinds.Glue = refl
 spec-as-in version kinds.Where = refl
+spec-as-in version kinds.Group = refl
+spec-as-in version kinds.Flat = refl
+spec-as-in version kinds.Sum = refl
+spec-as-in version kinds.Total = refl
+spec-as-in version kinds.Sorted = refl
 
 -- what two functions give of each kind is the same where the lists of it are
 at-each : {X : Type 0} (f g : StdKind → X) → map f all_kinds ≡ map g all_kinds → (kind : StdKind) → f kind ≡ g kind

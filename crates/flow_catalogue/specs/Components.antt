@@ -82,6 +82,15 @@ use Rattle.flow_group.specs.GroupLaws.{group_lawful}
 use Rattle.flow_group.specs.declared.flat.Flat.{Flat}
 use Rattle.flow_group.specs.Flat.{flat_next, flat_rules}
 use Rattle.flow_group.specs.FlatLaws.{flat_lawful}
+use Rattle.flow_sum.specs.declared.figures.Figures.{Figures}
+use Rattle.flow_sum.specs.Reckoning.{Reckoned, reckoner_next}
+use Rattle.flow_sum.specs.ReckoningLaws.{reckoner_lawful}
+use Rattle.flow_sum.specs.Sum.{Summing, sum_reckoning, sum_rules}
+use Rattle.flow_sum.specs.SumLaws.{sum_laws}
+use Rattle.flow_sum.specs.Total.{Totalling, total_reckoning, total_rules}
+use Rattle.flow_sum.specs.TotalLaws.{total_laws}
+use Rattle.flow_order.specs.Ascends.{SortedState, sorted_next, sorted_rules}
+use Rattle.flow_order.specs.AscendsLaws.{sorted_lawful}
 use Rattle.flow_catalogue.specs.Kinded.{Kinded}
 
 -- Reads the lines of its file.
@@ -207,3 +216,15 @@ group_kind = record { rules = group_rules; lawful = group_lawful; next = group_n
 -- Takes brackets off.
 abbrev pub flat_kind : Kinded Flat
 flat_kind = record { rules = flat_rules; lawful = flat_lawful; next = flat_next; comes = λ _ _ _. refl; alone = λ _ _ _ _ is. is; written = λ _. None }
+
+-- Sums the numbers of each stretch.
+abbrev pub sum_kind : Kinded (Reckoned Summing (Option Figures))
+sum_kind = record { rules = sum_rules; lawful = reckoner_lawful sum_reckoning sum_laws; next = reckoner_next sum_reckoning; comes = λ _ _ _. refl; alone = λ _ _ _ _ is. is; written = λ _. None }
+
+-- Tells at each number what they came to so far.
+abbrev pub total_kind : Kinded (Reckoned Totalling (Option Figures))
+total_kind = record { rules = total_rules; lawful = reckoner_lawful total_reckoning total_laws; next = reckoner_next total_reckoning; comes = λ _ _ _. refl; alone = λ _ _ _ _ is. is; written = λ _. None }
+
+-- Passes on what is sorted.
+abbrev pub sorted_kind : Kinded SortedState
+sorted_kind = record { rules = sorted_rules; lawful = sorted_lawful; next = sorted_next; comes = λ _ _ _. refl; alone = λ _ _ _ _ is. is; written = λ _. None }

@@ -1,12 +1,13 @@
 -- The table of the standard kinds: one row for each. (Morrison's components and JavaFBP's; the ports are this project's own.)
 use Rattle.flow_limits.specs.declared.TheConstants.{TEXT_LIMIT}
 use Rattle.std.specs.Prelude.{ℕ, Bool, nat_le, List, [], ◌∷◌, filter, map, codes}
-use Rattle.flow_plan.specs.declared.kind.PortClass.TheVariants.{Number, Fields, File, Pattern, Template, Bound, Whether, Text}
+use Rattle.flow_plan.specs.declared.kind.PortClass.TheVariants.{Number, Fields, File, Pattern, Template, Bound, Whether, Order, Summary, Text}
 use Rattle.flow_plan.specs.declared.kind.PortSpec.{PortSpec}
 use Rattle.flow_plan.specs.declared.kind.KindSpec.{KindSpec}
+use Rattle.flow_sum.specs.Summary.{stretch_names, text_names}
 use Rattle.flow_catalogue.specs.declared.table.TheConstants.{LAST_VERSION}
 use Rattle.flow_catalogue.specs.declared.table.StdKind.{StdKind}
-use Rattle.flow_catalogue.specs.declared.table.StdKind.TheVariants.{ReadLines, WriteLines, Passthru, Words, Fill, Brackets, Copy, Concat, Collate, Discard, Bundle, Unbundle, Hoard, Count, LoadBalance, Select, Update, Tally, Unique, Head, Tail, Match, Replace, Sort, Find, Split, Rewrite, Glue, Where, Group, Flat}
+use Rattle.flow_catalogue.specs.declared.table.StdKind.TheVariants.{ReadLines, WriteLines, Passthru, Words, Fill, Brackets, Copy, Concat, Collate, Discard, Bundle, Unbundle, Hoard, Count, LoadBalance, Select, Update, Tally, Unique, Head, Tail, Match, Replace, Sort, Find, Split, Rewrite, Glue, Where, Group, Flat, Sum, Total, Sorted}
 use Rattle.flow_catalogue.specs.Rows.{option_port, optional_option_port, stream_port, array_port, optional_port}
 
 -- A kind of this name, with these ports.
@@ -46,6 +47,9 @@ spec_in version Glue = row (codes "Glue") (option_port (codes "WITH") Text ∷ s
 spec_in version Where = row (codes "Where") (option_port (codes "IS") Bound ∷ stream_port (codes "IN") ∷ []) (stream_port (codes "ACC") ∷ optional_port (codes "REJ") ∷ [])
 spec_in version Group = row (codes "Group") (optional_option_port (codes "KEY") Pattern ∷ stream_port (codes "IN") ∷ []) (stream_port (codes "OUT") ∷ optional_port (codes "REST") ∷ [])
 spec_in version Flat = row (codes "Flat") (stream_port (codes "IN") ∷ []) (stream_port (codes "OUT") ∷ [])
+spec_in version Sum = row (codes "Sum") (optional_option_port (codes "NUMBER") Pattern ∷ optional_option_port (codes "WITH") (Summary stretch_names) ∷ optional_option_port (codes "ALL") Whether ∷ stream_port (codes "IN") ∷ []) (stream_port (codes "OUT") ∷ optional_port (codes "REST") ∷ [])
+spec_in version Total = row (codes "Total") (optional_option_port (codes "NUMBER") Pattern ∷ optional_option_port (codes "WITH") (Summary text_names) ∷ stream_port (codes "IN") ∷ []) (stream_port (codes "OUT") ∷ optional_port (codes "REST") ∷ [])
+spec_in version Sorted = row (codes "Sorted") (optional_option_port (codes "KEY") Pattern ∷ optional_option_port (codes "ORDER") Order ∷ stream_port (codes "IN") ∷ []) (stream_port (codes "OUT") ∷ [])
 
 -- A kind with all its ports: those that it has in the last version.
 abbrev pub spec_of : StdKind → KindSpec
@@ -57,7 +61,7 @@ name_of kind = (spec_of kind).name
 
 -- All standard kinds, in the order of the table.
 abbrev pub all_kinds : List StdKind
-all_kinds = ReadLines ∷ WriteLines ∷ Passthru ∷ Words ∷ Fill ∷ Brackets ∷ Copy ∷ Concat ∷ Collate ∷ Discard ∷ Bundle ∷ Unbundle ∷ Hoard ∷ Count ∷ LoadBalance ∷ Select ∷ Update ∷ Tally ∷ Unique ∷ Head ∷ Tail ∷ Match ∷ Replace ∷ Sort ∷ Find ∷ Split ∷ Rewrite ∷ Glue ∷ Where ∷ Group ∷ Flat ∷ []
+all_kinds = ReadLines ∷ WriteLines ∷ Passthru ∷ Words ∷ Fill ∷ Brackets ∷ Copy ∷ Concat ∷ Collate ∷ Discard ∷ Bundle ∷ Unbundle ∷ Hoard ∷ Count ∷ LoadBalance ∷ Select ∷ Update ∷ Tally ∷ Unique ∷ Head ∷ Tail ∷ Match ∷ Replace ∷ Sort ∷ Find ∷ Split ∷ Rewrite ∷ Glue ∷ Where ∷ Group ∷ Flat ∷ Sum ∷ Total ∷ Sorted ∷ []
 
 -- The table of all kinds with all their ports.
 abbrev pub std_kinds : List KindSpec
@@ -72,6 +76,9 @@ since Glue = 3
 since Where = 3
 since Group = 3
 since Flat = 3
+since Sum = 3
+since Total = 3
+since Sorted = 3
 since _ = 1
 
 -- A network file of this version may name the kind.

@@ -1,5 +1,5 @@
 -- What a plan says of a process of a standard kind.
-use Rattle.std.specs.Prelude.{◌≡◌, ℕ, ◌==◌, ◌&&◌, Bool, true, List, [], ◌∷◌, map, sum, Option, Some, None, slice_get, unwrap_or, IsTrue, codes, pos, Result, Ok, Err}
+use Rattle.std.specs.Prelude.{◌≡◌, ℕ, ◌==◌, ◌&&◌, Bool, true, false, List, [], ◌∷◌, map, sum, Option, Some, None, slice_get, find, unwrap_or, IsTrue, codes, pos, Result, Ok, Err}
 use Rattle.std.specs.List.{list_any, slice_split}
 use Rattle.std.specs.Str.{bytes_eq}
 use Rattle.std.specs.Str.Lines.{lines}
@@ -34,6 +34,16 @@ use Rattle.flow_fold.specs.declared.folder.Stretch.TheVariants.{Bare}
 use Rattle.flow_fold.specs.Folding.{beginning}
 use Rattle.flow_fold.specs.Glue.{glue_folding}
 use Rattle.flow_group.specs.Group.{fresh_group}
+use Rattle.flow_summary.specs.declared.name.SummaryNames.{SummaryNames}
+use Rattle.flow_summary.specs.declared.summary.Part.{Part}
+use Rattle.flow_summary.specs.Summaries.{parts_in}
+use Rattle.flow_sum.specs.Summary.{stretch_names, text_names, sum_alone}
+use Rattle.flow_sum.specs.Reckoning.{beginning as reckoning_begins}
+use Rattle.flow_sum.specs.Sum.{sum_reckoning}
+use Rattle.flow_sum.specs.Total.{total_reckoning}
+use Rattle.flow_order.specs.declared.order.KeyAs.TheVariants.{Bytes, Number}
+use Rattle.flow_order.specs.declared.order.Order.{Order}
+use Rattle.flow_order.specs.Order.{spelled}
 use Rattle.flow_catalogue.specs.declared.table.StdKind.{StdKind}
 use Rattle.flow_catalogue.specs.declared.table.StdKind.TheVariants as kinds
 use Rattle.flow_catalogue.specs.declared.standard.Std.{Std}
@@ -81,6 +91,23 @@ template_of (c ∷ cs) = c ∷ cs
 abbrev pub pattern_of : List ℕ → Option (List ℕ)
 pattern_of [] = None
 pattern_of (c ∷ cs) = Some (c ∷ cs)
+
+-- The parts of the summary with these names that a text is, where an empty one, or none, is the summary that says the sum alone.
+abbrev pub summary_of : SummaryNames → List ℕ → List Part
+summary_of names [] = sum_alone
+summary_of names (c ∷ cs) = parts_in names (c ∷ cs)
+
+-- The order by the bytes of the keys, the least first.
+abbrev pub by_bytes : Order
+by_bytes = record { key_as = Bytes; down = false }
+
+-- All orders.
+abbrev pub all_orders : List Order
+all_orders = by_bytes ∷ record { key_as = Bytes; down = true } ∷ record { key_as = Number; down = false } ∷ record { key_as = Number; down = true } ∷ []
+
+-- The order that a text names, where one that names none, as an empty one, stands for that by bytes.
+abbrev pub order_of : List ℕ → Order
+order_of text = unwrap_or (find (λ order. bytes_eq (spelled order) text) all_orders) by_bytes
 
 -- The text says yes.
 abbrev pub is_yes : List ℕ → Bool
@@ -148,6 +175,9 @@ first_component kinds.Glue given file = components.Glue (beginning glue_folding 
 first_component kinds.Where given file = components.Where (record { bound = bound_of (given.option 0); rejects = given.connected 1 })
 first_component kinds.Group given file = components.Group (fresh_group (pattern_of (given.option 0)) (given.connected 1))
 first_component kinds.Flat given file = components.Flat (record {})
+first_component kinds.Sum given file = components.Sum (reckoning_begins sum_reckoning (record { by = pattern_of (given.option 0); summary = summary_of stretch_names (given.option 1); all = is_yes (given.option 2); rest = given.connected 1 }))
+first_component kinds.Total given file = components.Total (reckoning_begins total_reckoning (record { by = pattern_of (given.option 0); summary = summary_of text_names (given.option 1); rest = given.connected 1 }))
+first_component kinds.Sorted given file = components.Sorted (record { ranking = record { pattern = pattern_of (given.option 0); order = order_of (given.option 1) }; last = None })
 
 -- The component is that of process p, in its first state on this file.
 pub record IsMade (network : Network) (p : ℕ) (process : Process) (file : List ℕ) (component : Std) : Type 0 where

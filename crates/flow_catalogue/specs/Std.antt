@@ -8,7 +8,7 @@ use Rattle.flow_component.specs.Outcomes.{outcome_as}
 use Rattle.flow_catalogue.specs.declared.standard.Std.{Std}
 use Rattle.flow_catalogue.specs.declared.standard.Std.TheVariants as components
 use Rattle.flow_catalogue.specs.Kinded.{Kinded}
-use Rattle.flow_catalogue.specs.Components.{read_lines_kind, write_lines_kind, words_kind, fill_kind, brackets_kind, passthru_kind, copy_kind, concat_kind, collate_kind, discard_kind, bundle_kind, unbundle_kind, hoard_kind, count_kind, load_balance_kind, select_kind, update_kind, match_kind, replace_kind, tally_kind, unique_kind, head_kind, tail_kind, sort_kind, find_kind, split_kind, rewrite_kind, glue_kind, where_kind, group_kind, flat_kind}
+use Rattle.flow_catalogue.specs.Components.{read_lines_kind, write_lines_kind, words_kind, fill_kind, brackets_kind, passthru_kind, copy_kind, concat_kind, collate_kind, discard_kind, bundle_kind, unbundle_kind, hoard_kind, count_kind, load_balance_kind, select_kind, update_kind, match_kind, replace_kind, tally_kind, unique_kind, head_kind, tail_kind, sort_kind, find_kind, split_kind, rewrite_kind, glue_kind, where_kind, group_kind, flat_kind, sum_kind, total_kind, sorted_kind}
 
 -- A component of some kind: its kind, what a component of this kind is as a standard one, and its state.
 pub data Standing : Type 1 where
@@ -47,6 +47,9 @@ standing (components.Glue component) = Stands _ glue_kind components.Glue compon
 standing (components.Where component) = Stands _ where_kind components.Where component
 standing (components.Group component) = Stands _ group_kind components.Group component
 standing (components.Flat component) = Stands _ flat_kind components.Flat component
+standing (components.Sum component) = Stands _ sum_kind components.Sum component
+standing (components.Total component) = Stands _ total_kind components.Total component
+standing (components.Sorted component) = Stands _ sorted_kind components.Sorted component
 
 -- What its kind says of it: its numbers of inputs and outputs, the outputs that it uses, the answers and hands for which it is ready, what it comes to, and the
 -- bytes of its file.

@@ -3,6 +3,7 @@
 //! each process of a plan its component.
 #![tactic(auto)]
 
+mod keyed;
 mod options;
 mod plans;
 mod process;
@@ -10,6 +11,7 @@ mod row;
 mod spelled;
 mod standard;
 mod table;
+mod version3;
 
 pub use options::is_connected;
 pub use plans::{

@@ -9,6 +9,7 @@ ghost use Rattle.flow_catalogue.specs.Rows.{IsCount, Elements, HasOptions};
 ghost use Rattle.flow_catalogue.specs.Processes.{IsStandard, IsOfKind, IsMade, Fits, first_component, given, fields_of, length_of_keys, option_text};
 ghost use Rattle.flow_catalogue.specs.Files.{UsesFile, NamesFile};
 
+use crate::keyed::{checking, summing, totalling};
 use crate::options::{fields, is_connected, number as number_in, option_text};
 use crate::plans::a_first_component_fits;
 use crate::spelled::{bounding, finding, gluing, grouping, rewriting, splitting};
@@ -199,6 +200,15 @@ fn first_component(
             Ok(Std::Group(grouping(alloc, process, rest)?))
         }
         StdKind::Flat => Ok(Std::Flat(Flat::new())),
+        StdKind::Sum => {
+            let rest = is_connected(plan, number, 1);
+            Ok(Std::Sum(summing(alloc, process, rest)?))
+        }
+        StdKind::Total => {
+            let rest = is_connected(plan, number, 1);
+            Ok(Std::Total(totalling(alloc, process, rest)?))
+        }
+        StdKind::Sorted => Ok(Std::Sorted(checking(alloc, process)?)),
     }
 }
 

@@ -47,7 +47,7 @@ pub fn finding(alloc: Global, process: &Process) -> Result<Mapper<Find>, AllocEr
 }
 
 // Whether a text says yes.
-fn is_yes(text: &[u8]) -> bool
+pub(crate) fn is_yes(text: &[u8]) -> bool
     ensures { result ≡ is_yes text.now }
 {
     text == b"yes".as_slice()

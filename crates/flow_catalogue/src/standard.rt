@@ -12,6 +12,7 @@ use flow_fold::{Folder, Glue};
 use flow_group::{Flat, Group};
 use flow_map::Mapper;
 use flow_match::{Match, Replace};
+use flow_order::Sorted;
 use flow_packet::Hands;
 use flow_parts::{Brackets, Count, Fill, ReadLines, Tally, Words, WriteLines};
 use flow_pick::{Head, Tail, Unique};
@@ -20,6 +21,7 @@ use flow_streams::{
     Bundle, Collate, Concat, Copy as CopyEach, Discard, Hoard, LoadBalance, Passthru, Select,
     Unbundle,
 };
+use flow_sum::{Reckoner, Sum, Total};
 use flow_where::Where;
 
 /// A standard component.
@@ -56,6 +58,9 @@ pub enum Std {
     Where(Where),
     Group(Group),
     Flat(Flat),
+    Sum(Reckoner<Sum>),
+    Total(Reckoner<Total>),
+    Sorted(Sorted),
 }
 
 impl Std {
@@ -113,6 +118,9 @@ impl Component for Std {
             Std::Where(component) => component.shape(),
             Std::Group(component) => component.shape(),
             Std::Flat(component) => component.shape(),
+            Std::Sum(component) => component.shape(),
+            Std::Total(component) => component.shape(),
+            Std::Sorted(component) => component.shape(),
         }
     }
 
@@ -150,6 +158,9 @@ impl Component for Std {
             Std::Where(component) => component.resume(hands, answer),
             Std::Group(component) => component.resume(hands, answer),
             Std::Flat(component) => component.resume(hands, answer),
+            Std::Sum(component) => component.resume(hands, answer),
+            Std::Total(component) => component.resume(hands, answer),
+            Std::Sorted(component) => component.resume(hands, answer),
         }
     }
 

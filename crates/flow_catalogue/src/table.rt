@@ -7,6 +7,9 @@ ghost use Rattle.flow_catalogue.specs.Rows.{option_port, optional_option_port, s
 use crate::row::{
     array, counting, ending, kind, option, optional, optional_option, passing, spreading, stream,
 };
+use crate::version3::{
+    bounding, checking, finding, gluing, grouping, rewriting, splitting, summing, totalling,
+};
 use flow_limits::TEXT_LIMIT;
 use flow_plan::{KindSpec, PortClass};
 use std::alloc::{AllocError, Global};
@@ -48,10 +51,13 @@ pub enum StdKind {
     Where,
     Group,
     Flat,
+    Sum,
+    Total,
+    Sorted,
 }
 
 // All kinds, in the order of the table.
-const ALL: [StdKind; 31] = [
+const ALL: [StdKind; 34] = [
     StdKind::ReadLines,
     StdKind::WriteLines,
     StdKind::Passthru,
@@ -83,6 +89,9 @@ const ALL: [StdKind; 31] = [
     StdKind::Where,
     StdKind::Group,
     StdKind::Flat,
+    StdKind::Sum,
+    StdKind::Total,
+    StdKind::Sorted,
 ];
 
 impl StdKind {
@@ -122,6 +131,9 @@ impl StdKind {
             StdKind::Where => b"Where",
             StdKind::Group => b"Group",
             StdKind::Flat => b"Flat",
+            StdKind::Sum => b"Sum",
+            StdKind::Total => b"Total",
+            StdKind::Sorted => b"Sorted",
         }
     }
 
@@ -136,7 +148,10 @@ impl StdKind {
             | StdKind::Glue
             | StdKind::Where
             | StdKind::Group
-            | StdKind::Flat => 3,
+            | StdKind::Flat
+            | StdKind::Sum
+            | StdKind::Total
+            | StdKind::Sorted => 3,
             _ => 1,
         }
     }
@@ -288,72 +303,6 @@ fn sort(alloc: Global) -> Result<KindSpec, AllocError>
     kind(alloc, b"Sort", inputs, vec![in alloc; output]?)
 }
 
-fn finding(alloc: Global) -> Result<KindSpec, AllocError>
-    ensures { IfOk result (λ kind. kind ≡ spec_of StdKind.Find) }
-{
-    let pattern = option(alloc, b"PATTERN", PortClass::Pattern)?;
-    let with = optional_option(alloc, b"WITH", PortClass::Template { pattern: 0 })?;
-    let input = stream(alloc, b"IN")?;
-    let output = stream(alloc, b"OUT")?;
-    let inputs = vec![in alloc; pattern, with, input]?;
-    kind(alloc, b"Find", inputs, vec![in alloc; output]?)
-}
-
-fn splitting(alloc: Global) -> Result<KindSpec, AllocError>
-    ensures { IfOk result (λ kind. kind ≡ spec_of StdKind.Split) }
-{
-    let pattern = option(alloc, b"PATTERN", PortClass::Pattern)?;
-    let brackets = optional_option(alloc, b"BRACKETS", PortClass::Whether)?;
-    let input = stream(alloc, b"IN")?;
-    let output = stream(alloc, b"OUT")?;
-    let inputs = vec![in alloc; pattern, brackets, input]?;
-    kind(alloc, b"Split", inputs, vec![in alloc; output]?)
-}
-
-fn rewriting(alloc: Global) -> Result<KindSpec, AllocError>
-    ensures { IfOk result (λ kind. kind ≡ spec_of StdKind.Rewrite) }
-{
-    let pattern = option(alloc, b"PATTERN", PortClass::Pattern)?;
-    let with = option(alloc, b"WITH", PortClass::Template { pattern: 0 })?;
-    let input = stream(alloc, b"IN")?;
-    let output = stream(alloc, b"OUT")?;
-    let rest = optional(alloc, b"REST")?;
-    let inputs = vec![in alloc; pattern, with, input]?;
-    kind(alloc, b"Rewrite", inputs, vec![in alloc; output, rest]?)
-}
-
-fn gluing(alloc: Global) -> Result<KindSpec, AllocError>
-    ensures { IfOk result (λ kind. kind ≡ spec_of StdKind.Glue) }
-{
-    let with = option(alloc, b"WITH", PortClass::Text)?;
-    let input = stream(alloc, b"IN")?;
-    let output = stream(alloc, b"OUT")?;
-    let inputs = vec![in alloc; with, input]?;
-    kind(alloc, b"Glue", inputs, vec![in alloc; output]?)
-}
-
-fn bounding(alloc: Global) -> Result<KindSpec, AllocError>
-    ensures { IfOk result (λ kind. kind ≡ spec_of StdKind.Where) }
-{
-    let bound = option(alloc, b"IS", PortClass::Bound)?;
-    let input = stream(alloc, b"IN")?;
-    let accepted = stream(alloc, b"ACC")?;
-    let others = optional(alloc, b"REJ")?;
-    let inputs = vec![in alloc; bound, input]?;
-    kind(alloc, b"Where", inputs, vec![in alloc; accepted, others]?)
-}
-
-fn grouping(alloc: Global) -> Result<KindSpec, AllocError>
-    ensures { IfOk result (λ kind. kind ≡ spec_of StdKind.Group) }
-{
-    let key = optional_option(alloc, b"KEY", PortClass::Pattern)?;
-    let input = stream(alloc, b"IN")?;
-    let output = stream(alloc, b"OUT")?;
-    let rest = optional(alloc, b"REST")?;
-    let inputs = vec![in alloc; key, input]?;
-    kind(alloc, b"Group", inputs, vec![in alloc; output, rest]?)
-}
-
 // A kind with its ports, which are the same in each version.
 fn spec(alloc: Global, kind: StdKind) -> Result<KindSpec, AllocError>
     ensures { IfOk result (λ spec. (version : ℕ) → spec ≡ spec_in version kind) }
@@ -390,6 +339,9 @@ fn spec(alloc: Global, kind: StdKind) -> Result<KindSpec, AllocError>
         StdKind::Where => bounding(alloc),
         StdKind::Group => grouping(alloc),
         StdKind::Flat => passing(alloc, b"Flat"),
+        StdKind::Sum => summing(alloc),
+        StdKind::Total => totalling(alloc),
+        StdKind::Sorted => checking(alloc),
     }
 }
 
