@@ -156,6 +156,9 @@ standard-at kinds.Glue = (27, refl)
 standard-at kinds.Where = (28, refl)
 standard-at kinds.Group = (29, refl)
 standard-at kinds.Flat = (30, refl)
+standard-at kinds.Sum = (31, refl)
+standard-at kinds.Total = (32, refl)
+standard-at kinds.Sorted = (33, refl)
 
 -- a standard name is none of the caller's own
 not-both : (own : List KindSpec) (kind : StdKind) (place : ℕ) (mine : KindSpec) → AreOwnKinds own → slice_get own place ≡ Some mine → mine.name ≡ name_of kind → ⊥

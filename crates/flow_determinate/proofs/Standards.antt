@@ -11,7 +11,7 @@ use Rattle.flow_catalogue.specs.declared.standard.Std.TheVariants as components
 use Rattle.flow_catalogue.specs.declared.table.StdKind.{StdKind}
 use Rattle.flow_catalogue.specs.declared.table.StdKind.TheVariants as kinds
 use Rattle.flow_catalogue.specs.Kinds.{name_of}
-use Rattle.flow_catalogue.specs.Components.{read_lines_kind, write_lines_kind, words_kind, fill_kind, brackets_kind, passthru_kind, copy_kind, concat_kind, collate_kind, discard_kind, bundle_kind, unbundle_kind, hoard_kind, count_kind, select_kind, update_kind, match_kind, replace_kind, tally_kind, unique_kind, head_kind, tail_kind, sort_kind, find_kind, split_kind, rewrite_kind, glue_kind, where_kind, group_kind, flat_kind}
+use Rattle.flow_catalogue.specs.Components.{read_lines_kind, write_lines_kind, words_kind, fill_kind, brackets_kind, passthru_kind, copy_kind, concat_kind, collate_kind, discard_kind, bundle_kind, unbundle_kind, hoard_kind, count_kind, select_kind, update_kind, match_kind, replace_kind, tally_kind, unique_kind, head_kind, tail_kind, sort_kind, find_kind, split_kind, rewrite_kind, glue_kind, where_kind, group_kind, flat_kind, sum_kind, total_kind, sorted_kind}
 use Rattle.flow_catalogue.specs.Processes.{Given, given, first_component}
 use Rattle.flow_catalogue.specs.Std.{std_next, StdReady, std_rules}
 use Rattle.flow_model.specs.States.{State}
@@ -54,6 +54,9 @@ told-none (components.Glue state) held level is ready = ready
 told-none (components.Where state) held level is ready = ready
 told-none (components.Group state) held level is ready = ready
 told-none (components.Flat component) held level is ready = ready
+told-none (components.Sum state) held level is ready = ready
+told-none (components.Total state) held level is ready = ready
+told-none (components.Sorted state) held level is ready = ready
 
 -- what a component of a kind comes to is of that kind
 kind-stays : {K : Type 0} (within : K → Std) → ((component : K) → is_balance (within component) ≡ false) → (outcome : Outcome K) → is_balance (component_after (outcome_as within outcome)) ≡ false
@@ -92,6 +95,9 @@ next-stays (components.Glue state) held answer is = kind-stays components.Glue (
 next-stays (components.Where state) held answer is = kind-stays components.Where (λ k. refl) (where_kind.next state held answer)
 next-stays (components.Group state) held answer is = kind-stays components.Group (λ k. refl) (group_kind.next state held answer)
 next-stays (components.Flat component) held answer is = kind-stays components.Flat (λ k. refl) (flat_kind.next component held answer)
+next-stays (components.Sum state) held answer is = kind-stays components.Sum (λ k. refl) (sum_kind.next state held answer)
+next-stays (components.Total state) held answer is = kind-stays components.Total (λ k. refl) (total_kind.next state held answer)
+next-stays (components.Sorted state) held answer is = kind-stays components.Sorted (λ k. refl) (sorted_kind.next state held answer)
 
 only-balances : OnlyTheseAsk std_rules is_balance
 only-balances = record {

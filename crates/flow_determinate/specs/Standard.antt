@@ -58,6 +58,9 @@ is_balance (components.Glue state) = false
 is_balance (components.Where state) = false
 is_balance (components.Group state) = false
 is_balance (components.Flat component) = false
+is_balance (components.Sum state) = false
+is_balance (components.Total state) = false
+is_balance (components.Sorted state) = false
 
 -- The component of process p of the plan, in its first state, on this file where it reads one.
 pub record IsFirstOf (plan : Plan) (p : ℕ) (component : Std) : Type 0 where

@@ -1,7 +1,7 @@
 -- What the standard kinds do, each in a line.
 use Rattle.std.specs.Prelude.{ℕ, List, codes}
 use Rattle.flow_catalogue.specs.declared.table.StdKind.{StdKind}
-use Rattle.flow_catalogue.specs.declared.table.StdKind.TheVariants.{ReadLines, WriteLines, Passthru, Words, Fill, Brackets, Copy, Concat, Collate, Discard, Bundle, Unbundle, Hoard, Count, LoadBalance, Select, Update, Tally, Unique, Head, Tail, Match, Replace, Sort, Find, Split, Rewrite, Glue, Where, Group, Flat}
+use Rattle.flow_catalogue.specs.declared.table.StdKind.TheVariants.{ReadLines, WriteLines, Passthru, Words, Fill, Brackets, Copy, Concat, Collate, Discard, Bundle, Unbundle, Hoard, Count, LoadBalance, Select, Update, Tally, Unique, Head, Tail, Match, Replace, Sort, Find, Split, Rewrite, Glue, Where, Group, Flat, Sum, Total, Sorted}
 
 -- What a kind does.
 abbrev pub purpose_of : StdKind → List ℕ
@@ -36,6 +36,9 @@ purpose_of Glue = codes "makes one text of those between two brackets, with WITH
 purpose_of Where = codes "accepts numbers for which IS holds, and rejects the rest, in version 3"
 purpose_of Group = codes "puts brackets round each row in which KEY finds the same, in version 3"
 purpose_of Flat = codes "takes brackets off, in version 3"
+purpose_of Sum = codes "sums the numbers that NUMBER finds, and tells them with WITH, in version 3"
+purpose_of Total = codes "tells at each number what they came to so far, with WITH, in version 3"
+purpose_of Sorted = codes "passes on what ascends by KEY and ORDER, else fails, in version 3"
 
 -- What is told of a kind of the caller's own in the place of what it does, which its program alone knows.
 unfoldable pub own_purpose : List ℕ

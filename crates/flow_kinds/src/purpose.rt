@@ -46,6 +46,10 @@ pub fn purpose(kind: StdKind) -> &'static [u8]
         StdKind::Where => b"accepts numbers for which IS holds, and rejects the rest, in version 3",
         StdKind::Group => b"puts brackets round each row in which KEY finds the same, in version 3",
         StdKind::Flat => b"takes brackets off, in version 3",
+        StdKind::Sum =>
+            b"sums the numbers that NUMBER finds, and tells them with WITH, in version 3",
+        StdKind::Total => b"tells at each number what they came to so far, with WITH, in version 3",
+        StdKind::Sorted => b"passes on what ascends by KEY and ORDER, else fails, in version 3",
     }
 }
 

@@ -118,6 +118,7 @@ by-lawful state held (Fails sort new cause) l = ((l.0.0, by cause l.0.1), tt)
     by (fails.Own own) o = o
     by (fails.Unnested port) o = o
     by fails.TurnLimit o = o
+    by fails.SumLimit o = o
 
 sort-lawful : (state : SortState) (held : Held) (answer : Answer) → SortReady state held answer → SortIsLawful held (sort_next state held answer)
 sort-lawful state held answer r = (sort_lawful.obeys state held answer (sort_next state held answer) r refl, sort_lawful.stays_ready state held answer (sort_next state held answer) r refl)

@@ -94,10 +94,10 @@ fn the_own_kinds_stand_behind_the_standard_ones(rt: HostRuntime) -> Result<(), F
     let alloc = rt.alloc();
     let own = own(alloc)?;
     let table = table(alloc, &own)?;
-    assert_eq!(rt; table.len(), 33);
-    assert_eq!(rt; table[30].name.as_slice(), b"Flat".as_slice());
-    assert_eq!(rt; table[31].name.as_slice(), b"Deal".as_slice());
-    assert_eq!(rt; table[32].outputs.len(), 2);
+    assert_eq!(rt; table.len(), 36);
+    assert_eq!(rt; table[33].name.as_slice(), b"Sorted".as_slice());
+    assert_eq!(rt; table[34].name.as_slice(), b"Deal".as_slice());
+    assert_eq!(rt; table[35].outputs.len(), 2);
     Ok(())
 }
 

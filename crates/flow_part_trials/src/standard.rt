@@ -37,6 +37,9 @@ const NAMES: &[&[u8]] = &[
     b"Where",
     b"Group",
     b"Flat",
+    b"Sum",
+    b"Total",
+    b"Sorted",
 ];
 
 fn check_kind(rt: &impl Abort, named: &[u8], name: &[u8]) {

@@ -195,7 +195,7 @@ valid = record {
 of-kind : (p : ℕ) (x : Process) (table : PortTable) → slice_get lone.processes p ≡ Some x → slice_get lone.tables p ≡ Some table → IsOfKind (table_of 3 own_kinds) x table
 of-kind p x table hx ht =
     at_one (λ k (y : Process). slice_get lone.tables k ≡ Some table → IsOfKind (table_of 3 own_kinds) y table) lone_process
-    (λ h. subst (λ (t : PortTable). IsOfKind (table_of 3 own_kinds) lone_process t) (sym (table-is 0 table h)) (record { place = 31; kind = lone_kind; here = refl; name = refl; inputs = refl; outputs = refl }))
+    (λ h. subst (λ (t : PortTable). IsOfKind (table_of 3 own_kinds) lone_process t) (sym (table-is 0 table h)) (record { place = 34; kind = lone_kind; here = refl; name = refl; inputs = refl; outputs = refl }))
     p x hx ht
 
 pub over : IsOver (table_of 3 own_kinds) lone
@@ -264,6 +264,9 @@ not-standard kinds.Glue same = let h : 79 ≡ 71 = ap first_letter same in omega
 not-standard kinds.Where same = let h : 79 ≡ 87 = ap first_letter same in omega (arith, h)
 not-standard kinds.Group same = let h : 79 ≡ 71 = ap first_letter same in omega (arith, h)
 not-standard kinds.Flat same = let h : 79 ≡ 70 = ap first_letter same in omega (arith, h)
+not-standard kinds.Sum same = let h : 79 ≡ 83 = ap first_letter same in omega (arith, h)
+not-standard kinds.Total same = let h : 79 ≡ 84 = ap first_letter same in omega (arith, h)
+not-standard kinds.Sorted same = let h : 79 ≡ 83 = ap first_letter same in omega (arith, h)
 
 pub process_is : (a b : Process) → Some a ≡ Some b → a ≡ b
 process_is a b h = cc
