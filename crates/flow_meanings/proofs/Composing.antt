@@ -217,6 +217,9 @@ std-own (components.Glue component) port is = first-own port is
 std-own (components.Where state) port is = either-own 1 0 port state.rejects is (omega arith) (omega arith)
 std-own (components.Group state) port is = either-own 1 0 port state.rest is (omega arith) (omega arith)
 std-own (components.Flat component) port is = first-own port is
+std-own (components.Sum component) port is = either-own 1 0 port component.kind.rest is (omega arith) (omega arith)
+std-own (components.Total component) port is = either-own 1 0 port component.kind.rest is (omega arith) (omega arith)
+std-own (components.Sorted state) port is = first-own port is
 
 -- Where a sender has put something, it has entries.
 some-entry : (sender : Sender) (puts : List Put) (k : ℕ) (put : Put) → slice_get puts k ≡ Some put → put.sender.process ≡ sender.process → put.sender.output ≡ sender.output → entries_by sender puts ≡ [] → ⊥

@@ -26,6 +26,8 @@ use Rattle.flow_meanings.proofs.FindKinds.{find-facts, split-facts, rewrite-fact
 use Rattle.flow_meanings.proofs.GlueKind.{glue-facts}
 use Rattle.flow_meanings.proofs.WhereKind.{where-facts}
 use Rattle.flow_meanings.proofs.GroupKinds.{group-facts, flat-facts}
+use Rattle.flow_meanings.proofs.SumKinds.{sum-facts, total-facts}
+use Rattle.flow_meanings.proofs.SortedKind.{sorted-facts}
 
 -- The facts of each standard component.
 pub facts-of : (component : Std) → Facts component
@@ -60,6 +62,9 @@ facts-of (components.Glue component) = glue-facts component
 facts-of (components.Where state) = where-facts state
 facts-of (components.Group state) = group-facts state
 facts-of (components.Flat component) = flat-facts component
+facts-of (components.Sum component) = sum-facts component
+facts-of (components.Total component) = total-facts component
+facts-of (components.Sorted state) = sorted-facts state
 
 -- a text of fields has one at least
 some-fields : (text : List ℕ) → 1 ≤ length (fields_of text)

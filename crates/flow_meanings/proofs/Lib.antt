@@ -13,6 +13,8 @@ pub mod FindKinds
 pub mod GlueKind
 pub mod WhereKind
 pub mod GroupKinds
+pub mod SumKinds
+pub mod SortedKind
 pub mod Every
 pub mod Contents
 pub mod Owns

@@ -52,6 +52,13 @@ use Rattle.flow_where.specs.Where.{WhereState}
 use Rattle.flow_where.specs.Meanings.{IsParted as IsWithinBound}
 use Rattle.flow_group.specs.Group.{GroupState, fresh_group}
 use Rattle.flow_group.specs.Meanings.{IsGrouped, flattened}
+use Rattle.flow_sum.specs.declared.figures.Figures.{Figures}
+use Rattle.flow_sum.specs.Reckoning.{Reckoned, beginning as reckoning_begins}
+use Rattle.flow_sum.specs.Made.{IsReckoned}
+use Rattle.flow_sum.specs.Sum.{Summing, sum_reckoning, sum_made}
+use Rattle.flow_sum.specs.Total.{Totalling, total_reckoning, total_made}
+use Rattle.flow_order.specs.Ascends.{SortedState}
+use Rattle.flow_order.specs.Meanings.{IsPassed}
 use Rattle.flow_catalogue.specs.declared.standard.Std.{Std}
 use Rattle.flow_catalogue.specs.declared.standard.Std.TheVariants as components
 use Rattle.flow_meanings.specs.Meaning.{Meaning}
@@ -191,6 +198,18 @@ group_meaning state = record { first = state ≡ fresh_group state.pattern state
 abbrev pub flat_meaning : Meaning
 flat_meaning = record { first = Unit {0}; loops = true; settled = true; makes = λ wrote x y. y 0 ≡ flattened (x 0) }
 
+-- A Sum sends what it makes of each stretch of its input, and the brackets between them, and to its second output, where that is connected, the Normal packets without a number.
+abbrev pub sum_meaning : Reckoned Summing (Option Figures) → Meaning
+sum_meaning component = record { first = component ≡ reckoning_begins sum_reckoning component.kind; loops = true; settled = true; makes = λ wrote x y. IsReckoned sum_reckoning sum_made component.kind (x 0) (y 0) (y 1) }
+
+-- A Total does so with what it makes of each stretch.
+abbrev pub total_meaning : Reckoned Totalling (Option Figures) → Meaning
+total_meaning component = record { first = component ≡ reckoning_begins total_reckoning component.kind; loops = true; settled = true; makes = λ wrote x y. IsReckoned total_reckoning total_made component.kind (x 0) (y 0) (y 1) }
+
+-- A Sorted sends its input, each stretch of which is sorted.
+abbrev pub sorted_meaning : SortedState → Meaning
+sorted_meaning state = record { first = state ≡ record { ranking = state.ranking; last = None }; loops = true; settled = true; makes = λ wrote x y. IsPassed state.ranking (x 0) (y 0) }
+
 -- What a standard component means.
 abbrev pub meaning_of : Std → Meaning
 meaning_of (components.ReadLines left) = read_lines_meaning left
@@ -224,3 +243,6 @@ meaning_of (components.Glue component) = glue_meaning component
 meaning_of (components.Where state) = where_meaning state
 meaning_of (components.Group state) = group_meaning state
 meaning_of (components.Flat component) = flat_meaning
+meaning_of (components.Sum component) = sum_meaning component
+meaning_of (components.Total component) = total_meaning component
+meaning_of (components.Sorted state) = sorted_meaning state
