@@ -1,5 +1,5 @@
 -- The standard kinds, each as one record: its own crate has its rule and its laws.
-use Rattle.std.specs.Prelude.{ℕ, List, Some, None, refl}
+use Rattle.std.specs.Prelude.{ℕ, List, Some, None, refl, Option}
 use Rattle.flow_component.specs.Laws.{Wishes}
 use Rattle.flow_parts.specs.ReadLines.{reads, read_lines_rules}
 use Rattle.flow_parts.specs.ReadLinesLaws.{read_lines_lawful}

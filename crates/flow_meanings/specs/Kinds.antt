@@ -1,5 +1,5 @@
 -- The standard kinds, each with its meaning as one record. (Morrison's components and JavaFBP's; the exact rules are this project's own.)
-use Rattle.std.specs.Prelude.{◌≡◌, ℕ, zero, suc, ◌+◌, ◌<◌, ◌≤◌, true, false, List, [], ◌++◌, map, length}
+use Rattle.std.specs.Prelude.{◌≡◌, ℕ, zero, suc, ◌+◌, ◌<◌, ◌≤◌, true, false, List, [], ◌++◌, map, length, Option, None}
 use Rattle.std.specs.List.{flat_map}
 use Rattle.flow_packet.specs.Tree.{Tree}
 use Rattle.flow_component.specs.Runs.{text_packet}
