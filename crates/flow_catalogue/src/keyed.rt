@@ -58,11 +58,7 @@ fn order(text: &[u8]) -> Order
 }
 
 /// A Sum; `rest` tells whether its second output is connected.
-pub fn summing(
-    alloc: Global,
-    process: &Process,
-    rest: bool,
-) -> Result<Reckoner<Sum>, AllocError>
+pub fn summing(alloc: Global, process: &Process, rest: bool) -> Result<Reckoner<Sum>, AllocError>
     requires options { HasOptions (spec_of StdKind.Sum).inputs process.now.options }
     ensures { IfOk result (λ component. component ≡ beginning sum_reckoning (record { by = pattern_of (option_text 0 process.now.options); summary = summary_of stretch_names (option_text 1 process.now.options); all = is_yes (option_text 2 process.now.options); rest = rest })) }
 {

@@ -86,11 +86,7 @@ fn put_names(page: &mut Vec<u8>, names: SummaryNames) -> Result<(), AllocError>
     Ok(())
 }
 
-fn put_name(
-    page: &mut Vec<u8>,
-    names: SummaryNames,
-    name: SummaryName,
-) -> Result<(), AllocError>
+fn put_name(page: &mut Vec<u8>, names: SummaryNames, name: SummaryName) -> Result<(), AllocError>
     ensures { OnOk result (page.new.items ≡ page.old.items ++ name_text names name) }
 {
     if !names.has(name) {
@@ -120,9 +116,7 @@ fn put_range(page: &mut Vec<u8>, class: PortClass) -> Result<(), AllocError>
         PortClass::Template { pattern: _ } => page.extend_from_slice(b": a template"),
         PortClass::Bound => page.extend_from_slice(b": a bound, as > 100"),
         PortClass::Whether => page.extend_from_slice(b": yes or no"),
-        PortClass::Order => page.extend_from_slice(
-            b": bytes or number, and maybe down behind it",
-        ),
+        PortClass::Order => page.extend_from_slice(b": bytes or number, and maybe down behind it"),
         PortClass::Summary { names } => {
             page.extend_from_slice(b": a text with")?;
             put_names(page, names)?;

@@ -62,6 +62,6 @@ own-kinds-version version own are =
     let such = is_among (kind_names own) in
     let differ : all_differ (kind_names part) ≡ true = ap all_differ (names-in version kinds) ∙ differ-kept (is_of_version version) all_kinds refl in
     let none : list_any such (kind_names part) ≡ false =
-        ap (list_any such) (names-in version kinds) ∙ none-kept such (is_of_version version) all_kinds (negated (list_any such (kind_names std_kinds)) are.none_standard) in
+    ap (list_any such) (names-in version kinds) ∙ none-kept such (is_of_version version) all_kinds (negated (list_any such (kind_names std_kinds)) are.none_standard) in
     table-append part own (both (list_all is_kind part) (all_differ (kind_names part)) (kinds-in version kinds) differ)
     (own-kinds own are.inputs are.outputs are.few_ports are.ports_differ) are.differ (ap not none)

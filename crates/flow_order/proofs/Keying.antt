@@ -51,8 +51,7 @@ module _ {K V : Type 0} (v : K → V) (key : Tree → V) where
       all-fit keys ts rest k d (omega (arith, h))
 
   module _ (lt : K × Tree → K × Tree → Bool) (less : Tree → Tree → Bool) (o : IsStrictWeakOrder lt) (w : IsStrictWeakOrder less)
-    (agree : (p q : K × Tree) → Fits p → Fits q → lt p q ≡ less p.1 q.1) where
-
+      (agree : (p q : K × Tree) → Fits p → Fits q → lt p q ≡ less p.1 q.1) where
     tail : (p : K × Tree) (ps : List (K × Tree)) → All Fits (p ∷ ps) → All Fits ps
     tail p ps all k d h = all (suc k) d (omega (arith, h))
 

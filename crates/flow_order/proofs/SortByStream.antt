@@ -351,9 +351,10 @@ module _ (ranking : Ranking) (rests : Bool) where
       let packets : held.packets ≡ carrier_of id (u ∷ us) ∷ t ∷ [] = h.holds ∙ (λ j. first j ∷ second j ∷ []) in
       let sound = (sorted-carries ranking held id (Some (id_of t)) (carries-two held id (id_of t) h s)).sound in
       let more = ended es m q (places.Gathering id) held id (Some t) u us packets sound c r rec in
-      let stay = stays-kind (content t) kind k ∙ e in
-      (more.0 ∙ sym (append_assoc (stable_sort ranking (map content (u ∷ us))) (content t ∷ []) (sorted [] (got 0 es))) ∙ (λ i. leaves i ++ sorted (left i) (got 0 es)) ∙ sym (along (map content (u ∷ us)) (content t) (got 0 es) kind k stay),
-      more.1 ∙ sym ((stays-first (content t) (got 0 es) stay).1))
+      let stay = stays-kind (content t) kind k ∙ e in (
+        more.0 ∙ sym (append_assoc (stable_sort ranking (map content (u ∷ us))) (content t ∷ []) (sorted [] (got 0 es))) ∙ (λ i. leaves i ++ sorted (left i) (got 0 es)) ∙ sym (along (map content (u ∷ us)) (content t) (got 0 es) kind k stay),
+        more.1 ∙ sym ((stays-first (content t) (got 0 es) stay).1),
+      )
 
   comes-in : (es : List Happening) (m q : Poise SortByState) (held : Held) (id : ℕ) (u : Tree) (us : List Tree) (t : Tree) (h : HoldsTwo held id (id_of t)) (kind : Kind) → Sound held → h.first ≡ carrier_of id (u ∷ us) → h.second ≡ t → kind_of (content t) ≡ kind → kind_at held.packets (id_of t) ≡ kind
       → text_at held.packets (id_of t) ≡ text_of (content t) → Wishes m.component m.held m.wish ≡ comes (at (places.Gathering id)) held (id_of t) kind → Runs sort_by_rules m es q → Rec es q → Leads (In id u us) es (content t ∷ got 0 es)

@@ -197,11 +197,7 @@ fn put_unsorted(
     put_packet(text, processes, packet)
 }
 
-fn put_cause(
-    text: &mut Vec<u8>,
-    processes: &[ProcessLine],
-    cause: &Cause,
-) -> Result<(), AllocError>
+fn put_cause(text: &mut Vec<u8>, processes: &[ProcessLine], cause: &Cause) -> Result<(), AllocError>
     ensures { OnOk result (text.new.items ≡ text.old.items ++ cause_text processes.now cause.now) }
 {
     match cause {
