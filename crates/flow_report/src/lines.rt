@@ -1,5 +1,5 @@
 //! The lines of a report, appended one by one.
-ghost use Rattle.std.specs.Prelude.{◌≡◌, ◌++◌, OnOk};
+ghost use Rattle.std.specs.Prelude.{◌≡◌, ◌++◌, OnOk, codes};
 ghost use Rattle.std.specs.List.{flat_map};
 ghost use Rattle.std.specs.Fmt.{decimal};
 ghost use Rattle.flow_report.specs.Text.{ended, verdict_line, process_line, connection_line, status_text, wait_text, own_text, cause_text, blocked_line, waits_line, failed_line, left_line, more_lines, packet_text, place_text, process_name, connection_name, total_line};
