@@ -19,11 +19,19 @@ use Rattle.flow_determinate.specs.Determinate.{EachHasOneSender, IsStill, SameEn
 abbrev pub IsNamedStandard : PlanProcess → Type 0
 IsNamedStandard process = (kind : StdKind) × (process.kind ≡ name_of kind)
 
+-- Every process of the plan is of a standard kind.
+abbrev pub AreNamedStandard : Plan → Type 0
+AreNamedStandard plan = (p : ℕ) (process : PlanProcess) → slice_get plan.processes p ≡ Some process → IsNamedStandard process
+
+-- No process of the plan is a LoadBalance.
+abbrev pub HasNoBalance : Plan → Type 0
+HasNoBalance plan = (p : ℕ) (process : PlanProcess) → slice_get plan.processes p ≡ Some process → process.kind ≢ name_of kinds.LoadBalance
+
 -- A determinate plan: no connection has two senders, and every process is of a standard kind other than LoadBalance.
 pub record IsDeterminate (plan : Plan) : Type 0 where
   pub one_sender : EachHasOneSender plan
-  pub standard : (p : ℕ) (process : PlanProcess) → slice_get plan.processes p ≡ Some process → IsNamedStandard process
-  pub no_balance : (p : ℕ) (process : PlanProcess) → slice_get plan.processes p ≡ Some process → process.kind ≢ name_of kinds.LoadBalance
+  pub standard : AreNamedStandard plan
+  pub no_balance : HasNoBalance plan
 
 -- A LoadBalance. It alone of the standard components asks for a level.
 abbrev pub is_balance : Std → Bool

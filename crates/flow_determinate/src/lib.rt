@@ -6,8 +6,8 @@
 ghost use Rattle.std.specs.Prelude.{◌≡◌, ◌≤◌, ◌↔◌, IsTrue, length};
 ghost use Rattle.flow_catalogue.specs.declared.table.StdKind.TheVariants as kinds;
 ghost use Rattle.flow_catalogue.specs.Kinds.{name_of};
-ghost use Rattle.flow_determinate.specs.Determinate.{HasOneOutcome};
-ghost use Rattle.flow_determinate.specs.Standard.{IsNamedStandard, IsDeterminate, DeterminatePlansHaveOneOutcome, DeterminatePlansEndAsAlone};
+ghost use Rattle.flow_determinate.specs.Determinate.{EachHasOneSender, HasOneOutcome};
+ghost use Rattle.flow_determinate.specs.Standard.{AreNamedStandard, HasNoBalance, IsNamedStandard, IsDeterminate, DeterminatePlansHaveOneOutcome, DeterminatePlansEndAsAlone};
 
 use flow_catalogue::{Std, StdKind, standard_components_come_to_one_outcome};
 use flow_component::Component;
@@ -59,6 +59,31 @@ fn is_load_balance(process: &Process) -> bool
     process.kind.as_slice() == b"LoadBalance".as_slice()
 }
 
+// Whether no connection has two senders.
+fn each_has_one_sender(plan: &Plan) -> bool
+    ensures { IsTrue result ↔ EachHasOneSender plan.now }
+{
+    plan.connections()
+        .iter()
+        .all(|connection| has_one_sender(connection))
+}
+
+// Whether every process is of a standard kind.
+fn are_standard(plan: &Plan) -> bool
+    ensures { IsTrue result ↔ AreNamedStandard plan.now }
+{
+    plan.processes().iter().all(|process| is_standard(process))
+}
+
+// Whether no process is a LoadBalance.
+fn has_no_balance(plan: &Plan) -> bool
+    ensures { IsTrue result ↔ HasNoBalance plan.now }
+{
+    plan.processes()
+        .iter()
+        .all(|process| !is_load_balance(process))
+}
+
 /// Whether the plan is determinate: no connection has two senders, and every process is of a standard kind other than
 /// LoadBalance. Takes no memory.
 ///
@@ -66,12 +91,5 @@ fn is_load_balance(process: &Process) -> bool
 pub fn determinate(plan: &Plan) -> bool
     ensures { IsTrue result ↔ IsDeterminate plan.now }
 {
-    plan.connections()
-        .iter()
-        .all(|connection| has_one_sender(connection))
-        && plan.processes().iter().all(|process| is_standard(process))
-        && !plan
-            .processes()
-            .iter()
-            .any(|process| is_load_balance(process))
+    each_has_one_sender(plan) && are_standard(plan) && has_no_balance(plan)
 }
