@@ -7,6 +7,5 @@ pub mod LeftComing
 pub mod RightComing
 pub mod JoinPairing
 pub mod JoinStream
-pub mod Spelling
 pub mod JoinFailing
 pub mod JoinHolding

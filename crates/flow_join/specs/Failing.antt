@@ -27,6 +27,7 @@ IsCause manner told fails.HandsLimit = ⊥
 IsCause manner told fails.TreeDepth = ⊥
 IsCause manner told (fails.Unnested output) = ⊥
 IsCause manner told fails.TurnLimit = ⊥
+IsCause manner told fails.SumLimit = ⊥
 IsCause manner told (fails.Own cause) = ⊥
 
 -- Where a Join fails at something that happens to it, it was told what it fails for: so two inputs that ascend and have no brackets never fail it, but for a

@@ -1,14 +1,14 @@
 -- Where a Join stands.
 use Rattle.std.specs.Prelude.{ℕ, Bool, List, [], Option}
-use Rattle.flow_join.specs.declared.pairs.PairPart.{PairPart}
+use Rattle.flow_summary.specs.declared.summary.Part.{Part}
 use Rattle.flow_join.specs.declared.side.Side.{Side}
 use Rattle.flow_join.specs.declared.side.Side.TheVariants.{Waiting}
 
--- What never changes: the patterns of the keys of both inputs, what is made of a pair, and which of the outputs for texts without partner are connected.
+-- What never changes: the patterns of the keys of both inputs, the parts of what is made of a pair, and which of the outputs for texts without partner are connected.
 pub record Manner : Type 0 where
   pub left_by : Option (List ℕ)
   pub right_by : Option (List ℕ)
-  pub parts : List PairPart
+  pub parts : List Part
   pub sends_left : Bool
   pub sends_right : Bool
 

@@ -9,13 +9,14 @@ ghost use Rattle.flow_join.specs.JoinState.{fresh_join};
 ghost use Rattle.flow_key.specs.Key.{key_of};
 ghost use Rattle.flow_join.specs.Keys.{key_order};
 
-use crate::pairs::PairTemplate;
+use crate::pairs::{pair_len, pair_text};
 use crate::side::Side;
 use flow_component::{Answer, Component, Fail, Port, Shape, Stop, Wish};
 use flow_items::{Items, Text};
 use flow_key::Key;
 use flow_limits::TEXT_LIMIT;
 use flow_packet::{Hands, Kind, PacketId};
+use flow_summary::Part;
 use std::alloc::{AllocError, Global};
 use std::cmp::Ordering;
 use std::marker::Model;
@@ -31,13 +32,13 @@ const LEFT_OUT: Port = Port(1);
 
 const RIGHT_OUT: Port = Port(2);
 
-/// What a Join is made of: what finds the keys of its inputs, what it makes of a pair, and which outputs for what has no
-/// partner are connected.
+/// What a Join is made of: what finds the keys of its inputs, the parts of what it makes of a pair, and which outputs for
+/// what has no partner are connected.
 #[derive(Drop)]
 pub struct JoinManner {
     pub left_by: Key,
     pub right_by: Key,
-    pub template: PairTemplate,
+    pub parts: Vec<Part>,
     pub sends_left: bool,
     pub sends_right: bool,
 }
@@ -47,7 +48,7 @@ impl Model for JoinManner {
 
     ghost Value = { Manner };
 
-    ghost view = { λ m. record { left_by = m.left_by; right_by = m.right_by; parts = m.template; sends_left = m.sends_left; sends_right = m.sends_right } };
+    ghost view = { λ m. record { left_by = m.left_by; right_by = m.right_by; parts = m.parts.items; sends_left = m.sends_left; sends_right = m.sends_right } };
 }
 
 /// Joins two inputs whose texts ascend by their keys, in the order of bytes.
@@ -62,7 +63,7 @@ pub struct Join {
     alloc: Global,
     left_by: Key,
     right_by: Key,
-    template: PairTemplate,
+    parts: Vec<Part>,
     sends_left: bool,
     sends_right: bool,
     left: Side,
@@ -78,7 +79,7 @@ impl Model for Join {
 
     ghost Value = { JoinState };
 
-    ghost view = { λ j. record { manner = record { left_by = j.left_by; right_by = j.right_by; parts = j.template; sends_left = j.sends_left; sends_right = j.sends_right }; left = j.left; left_key = j.left_key; right = j.right; right_key = j.right_key; group = j.group; paired = j.paired } };
+    ghost view = { λ j. record { manner = record { left_by = j.left_by; right_by = j.right_by; parts = j.parts.items; sends_left = j.sends_left; sends_right = j.sends_right }; left = j.left; left_key = j.left_key; right = j.right; right_key = j.right_key; group = j.group; paired = j.paired } };
 }
 
 impl Join {
@@ -89,7 +90,7 @@ impl Join {
         let JoinManner {
             left_by,
             right_by,
-            template,
+            parts,
             sends_left,
             sends_right,
         } = manner;
@@ -97,7 +98,7 @@ impl Join {
             alloc,
             left_by,
             right_by,
-            template,
+            parts,
             sends_left,
             sends_right,
             left: Side::Waiting,
@@ -161,13 +162,14 @@ impl Join {
     {
         let right = self.group.as_slice()[self.paired].as_slice();
         let key = self.left_key.as_slice();
-        let Some(length) = self.template.len_of(left, right, key) else {
+        let Some(length) = pair_len(&self.parts, left, right, key) else {
             return Err(AllocError);
         };
         if length > TEXT_LIMIT {
             return Ok(Err(length as u64));
         }
-        Ok(Ok(self.template.written(self.alloc, left, right, key)?))
+        let text = pair_text(self.alloc, &self.parts, left, right, key)?;
+        Ok(Ok(text))
     }
 
     // Makes a packet of a pair, which is sent.

@@ -14,5 +14,5 @@ pub use meanings::{
     join_fails_for_a_cause, join_holds_one_key, join_is_settled, join_keeps_its_meaning,
 };
 pub use outcomes::join_comes_to_one_outcome;
-pub use pairs::{PairPart, PairTemplate};
+pub use pairs::{pair_names, pair_parts};
 pub use side::Side;
