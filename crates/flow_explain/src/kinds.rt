@@ -265,12 +265,12 @@ fn put_file_rule(page: &mut String) -> Result<(), AllocError> {
 
 fn put_summary_rule(page: &mut String, names: SummaryNames) -> Result<(), AllocError> {
     page.push_str(" is a text in which these stand for what the texts come to:")?;
-    put_names(page, names)?;
+    put_summary_names(page, names)?;
     page.push_str("; and $$ for a dollar.\n")
 }
 
 /// The names of a summary, each behind a blank and a dollar.
-pub fn put_names(page: &mut String, names: SummaryNames) -> Result<(), AllocError> {
+pub fn put_summary_names(page: &mut String, names: SummaryNames) -> Result<(), AllocError> {
     for name in SummaryName::all() {
         if names.has(*name) {
             page.push_str(" $")?;

@@ -2,7 +2,7 @@
 ghost use Rattle.flow_offer.specs.Kinds.{AreOwnKinds};
 
 use crate::found::{Found, Walk};
-use crate::kinds::{Side, port, put_names, row, table_for};
+use crate::kinds::{Side, port, put_summary_names, row, table_for};
 use crate::pieces::is_line_end;
 use crate::said::{Mention, Tag};
 use flow_limits::STATEMENT_LIMIT;
@@ -167,7 +167,7 @@ fn put_class(page: &mut String, class: PortClass) -> Result<(), AllocError> {
         PortClass::Order => page.push_str(": bytes or number, and maybe down behind it"),
         PortClass::Summary { names } => {
             page.push_str(": a text with")?;
-            put_names(page, names)?;
+            put_summary_names(page, names)?;
             page.push_str(" in it")
         }
         PortClass::Text => page.push_str(": any text"),
